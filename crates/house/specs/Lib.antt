@@ -1,0 +1,4 @@
+pub mod Rounding
+pub mod NumberSets
+pub mod House
+pub mod Bench

@@ -1,0 +1,4 @@
+pub mod Counts
+pub mod DingLaws
+pub mod Near
+pub mod OkcnLaws

@@ -1,0 +1,3 @@
+pub mod Reconcilers
+pub mod Ding
+pub mod Okcn

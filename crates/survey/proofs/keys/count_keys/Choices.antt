@@ -1,0 +1,14 @@
+use mathlib.Core.Bool.{_&&_}
+use mathlib.Core.Path.{_≡_}
+use Prim.Native.Nat.{_≤_}
+use lib.Dec.{eqb}
+use Rattle.profile.specs.Counts.{count}
+use Rattle.profile.specs.Laws.{key-count}
+use Rattle.survey.proofs.keys.count_keys.Given as given
+
+abbrev pub Inv-loop-x : given.InvT-loop-x
+Inv-loop-x g l =
+    (l .counts .zeros ≡ key-count (g .P·Profile .functions) (l .x) (l .coin) (l .signal) 0)
+    × (l .counts .ones ≡ key-count (g .P·Profile .functions) (l .x) (l .coin) (l .signal) 1)
+    × (l .counts .zeros ≤ l .x)
+    × (l .counts .ones ≤ l .x)
