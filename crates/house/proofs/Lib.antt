@@ -1,5 +1,5 @@
 pub mod Classes
-pub mod FairSets
+pub mod AdmissibleSets
 pub mod Floors
 pub mod Lawfulness
 pub mod Roundings

@@ -5,7 +5,7 @@ use Rattle.ring.specs.Residues.{IsModulus}
 use Rattle.profile.specs.Secrets.{Bounds}
 use Rattle.house.specs.declared.sizes.Sizes.{Sizes}
 
-pub record Fair (s : Sizes) : Type 0 where
+pub record Admissible (s : Sizes) : Type 0 where
   pub n-power : (m : ℕ) × (2 ≤ m) × (m ≤ 10) × (s .n ≡ 2 ^ m)
   pub modulus : IsModulus (s .q)
   pub w-least : 1 ≤ s .w

@@ -4,113 +4,71 @@ use profile::Place;
 use profile::PlaceSecret;
 use profile::SecretPlace;
 ghost use mathlib.Core.Path.{_≡_};
-ghost use Rattle.house.specs.NumberSets.{Fair, secret-bounds, sizes-t, sizes-s, sizes-w};
+ghost use Rattle.house.specs.NumberSets.{Admissible, secret-bounds, sizes-t, sizes-s, sizes-w};
 ghost use Rattle.house.specs.declared.sizes.Sizes.{Sizes};
 
-// What a house profile has apart from its reconciler. The constants are those of `Sizes`.
+// What a house profile has apart from its reconciler.
 pub trait NumberSet {
-    const N: usize;
-
-    const Q: u32;
-
-    const P: u32;
-
-    const W: u32;
-
-    const E: u32;
-
-    const L: u32;
-
-    const ROUNDING: u32;
-
-    const BYTE: u8;
+    const SIZES: Sizes;
 
     type Secret: SecretPlace;
 
     ghost sizes: { Sizes };
 
-    law fair: { Fair sizes };
+    law admissible: { Admissible sizes };
 
     law secret_bounds: { Secret·SecretPlace .bounds ≡ secret-bounds sizes };
 
-    // The constants, as clauses know them.
+    // The constant, as clauses know it.
     fn stated() -> Sizes
         ensures { λ r. ⌜ r ≡ sizes ⌝ };
 }
 
-// For tests by hand.
+// Small enough to work through by hand.
 pub struct T;
 
 pub impl NumberSet for T as TNumbers {
-    const N: usize = 4;
+    const SIZES: Sizes = Sizes {
+        n: 4,
+        q: 257,
+        p: 63,
+        w: 6,
+        e: 1,
+        l: 4,
+        rounding: 2,
+        byte: 1,
+    };
 
-    const Q: u32 = 257;
-
-    const P: u32 = 63;
-
-    const W: u32 = 6;
-
-    const E: u32 = 1;
-
-    const L: u32 = 4;
-
-    const ROUNDING: u32 = 2;
-
-    const BYTE: u8 = 1;
-
-    type Secret = Place<{ Self::N }, { Self::E }, { Self::L }>;
+    type Secret = Place<4, 1, 4>;
 
     ghost sizes = { sizes-t };
 
     fn stated() -> Sizes {
-        Sizes {
-            n: Self::N,
-            q: Self::Q,
-            p: Self::P,
-            w: Self::W,
-            e: Self::E,
-            l: Self::L,
-            rounding: Self::ROUNDING,
-            byte: Self::BYTE,
-        }
+        Self::SIZES
     }
 }
 
-// Small messages.
+// Small numbers.
 pub struct S;
 
 pub impl NumberSet for S as SNumbers {
-    const N: usize = 512;
+    const SIZES: Sizes = Sizes {
+        n: 512,
+        q: 12289,
+        p: 4095,
+        w: 12,
+        e: 2,
+        l: 191,
+        rounding: 2,
+        byte: 2,
+    };
 
-    const Q: u32 = 12289;
-
-    const P: u32 = 4095;
-
-    const W: u32 = 12;
-
-    const E: u32 = 2;
-
-    const L: u32 = 191;
-
-    const ROUNDING: u32 = 2;
-
-    const BYTE: u8 = 2;
-
-    type Secret = Place<{ Self::N }, { Self::E }, { Self::L }>;
+    type Secret = Place<512, 2, 191>;
 
     ghost sizes = { sizes-s };
 
     fn stated() -> Sizes {
-        Sizes {
-            n: Self::N,
-            q: Self::Q,
-            p: Self::P,
-            w: Self::W,
-            e: Self::E,
-            l: Self::L,
-            rounding: Self::ROUNDING,
-            byte: Self::BYTE,
-        }
+        Self::SIZES
     }
 }
 
@@ -118,36 +76,22 @@ pub impl NumberSet for S as SNumbers {
 pub struct W;
 
 pub impl NumberSet for W as WNumbers {
-    const N: usize = 256;
+    const SIZES: Sizes = Sizes {
+        n: 256,
+        q: 8380417,
+        p: 16383,
+        w: 14,
+        e: 7,
+        l: 1792,
+        rounding: 256,
+        byte: 3,
+    };
 
-    const Q: u32 = 8380417;
-
-    const P: u32 = 16383;
-
-    const W: u32 = 14;
-
-    const E: u32 = 7;
-
-    const L: u32 = 1792;
-
-    const ROUNDING: u32 = 256;
-
-    const BYTE: u8 = 3;
-
-    type Secret = Place<{ Self::N }, { Self::E }, { Self::L }>;
+    type Secret = Place<256, 7, 1792>;
 
     ghost sizes = { sizes-w };
 
     fn stated() -> Sizes {
-        Sizes {
-            n: Self::N,
-            q: Self::Q,
-            p: Self::P,
-            w: Self::W,
-            e: Self::E,
-            l: Self::L,
-            rounding: Self::ROUNDING,
-            byte: Self::BYTE,
-        }
+        Self::SIZES
     }
 }

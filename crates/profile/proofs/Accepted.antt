@@ -7,7 +7,7 @@ use lib.Dec.{leb, ltb}
 use Rattle.std.specs.declared.result.Result.{Result}
 use Rattle.std.specs.declared.result.Result.the-variants.{Ok, Err}
 use Rattle.ring.specs.declared.fault.Fault.{Fault}
-use Rattle.ring.specs.declared.fault.Fault.the-variants.{OutOfRange, BadCoin}
+use Rattle.ring.specs.declared.fault.Fault.the-variants.{OutOfRange, CoinOutOfRange}
 use Rattle.profile.specs.Answers.{round-answer, recover-answer, reconcile-answer, read-answer}
 use Rattle.profile.specs.Laws.{Functions}
 use Rattle.profile.specs.declared.numbers.Numbers.{Numbers}
@@ -31,7 +31,7 @@ module _ (k : Numbers) (f : Functions) where
   pub reconciled : (x coin signal bit : ℕ) → reconcile-answer k f x coin ≡ Ok (signal, bit) → (signal ≡ f .signal x coin) × (bit ≡ f .key-bit x coin)
   reconciled x coin signal bit e =
       let both : _≡_ {A = ℕ × ℕ} (signal, bit) (f .signal x coin, f .key-bit x coin) =
-      two-tests (ltb x (k .q)) (ltb coin (k .coins)) (f .signal x coin, f .key-bit x coin) (signal, bit) (OutOfRange 0) (BadCoin 0) e in
+      two-tests (ltb x (k .q)) (ltb coin (k .coins)) (f .signal x coin, f .key-bit x coin) (signal, bit) (OutOfRange 0) (CoinOutOfRange 0) e in
       (ap (λ (p : ℕ × ℕ). p .0) both, ap (λ (p : ℕ × ℕ). p .1) both)
 
   pub key-bit-read : (y signal bit : ℕ) → read-answer k f y signal ≡ Ok bit → bit ≡ f .read y signal

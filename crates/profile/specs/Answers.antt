@@ -5,7 +5,7 @@ use lib.Dec.{leb, ltb}
 use Rattle.std.specs.declared.result.Result.{Result}
 use Rattle.std.specs.declared.result.Result.the-variants.{Ok, Err}
 use Rattle.ring.specs.declared.fault.Fault.{Fault}
-use Rattle.ring.specs.declared.fault.Fault.the-variants.{OutOfRange, BadCoin}
+use Rattle.ring.specs.declared.fault.Fault.the-variants.{OutOfRange, CoinOutOfRange}
 use Rattle.profile.specs.Laws.{Functions}
 use Rattle.profile.specs.declared.numbers.Numbers.{Numbers}
 
@@ -13,7 +13,7 @@ use Rattle.profile.specs.declared.numbers.Numbers.{Numbers}
 abbrev pub reconciled : (q coins : ℕ) (signal key-bit : ℕ → ℕ → ℕ) → ℕ → ℕ → Result (ℕ × ℕ) Fault
 reconciled q coins signal key-bit x coin =
     cond (ltb x q)
-    (cond (ltb coin coins) (Ok (signal x coin, key-bit x coin)) (Err (BadCoin 0)))
+    (cond (ltb coin coins) (Ok (signal x coin, key-bit x coin)) (Err (CoinOutOfRange 0)))
     (Err (OutOfRange 0))
 
 -- for a residue below q and a signal of so many bits, the key bit that is read

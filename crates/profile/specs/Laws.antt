@@ -43,9 +43,18 @@ pub record MultipleWithin (step bound : ℕ) (d : ℤ) : Type 0 where
   pub multiple : natAbs d % step ≡ 0
   pub size : natAbs d ≤ bound
 
--- the residues below q that a coin gives this signal and this key bit
-abbrev pub key-count : Functions → ℕ → ℕ → ℕ → ℕ → ℕ
-key-count f q coin signal bit = count (λ x. eqb (f .signal x coin) signal && eqb (f .key-bit x coin) bit) q
+-- how many residues below q a coin gives the signal v and this key bit
+abbrev pub key-count : (signal key-bit : ℕ → ℕ → ℕ) → (q coin v bit : ℕ) → ℕ
+key-count signal key-bit q coin v bit = count (λ x. eqb (signal x coin) v && eqb (key-bit x coin) bit) q
+
+module _ (q coins : ℕ) (signal key-bit : ℕ → ℕ → ℕ) where
+  -- what is read d away from x, with the signal of x, is the key bit of x, for each multiple d of step of size at most tau
+  abbrev pub ReadsWithin : ℕ → ℕ → (ℕ → ℕ → ℕ) → Type 0
+  ReadsWithin step tau read = (x coin : ℕ) (d : ℤ) → x < q → coin < coins → MultipleWithin step tau d → read (residue q (pos x +ℤ d)) (signal x coin) ≡ key-bit x coin
+
+  -- for each coin and signal, the residues with key bit 0 and those with key bit 1 differ in number by at most one
+  abbrev pub Balanced : ℕ → Type 0
+  Balanced width = (coin v : ℕ) → coin < coins → v < 2 ^ width → (key-count signal key-bit q coin v 0 ≤ key-count signal key-bit q coin v 1 + 1) × (key-count signal key-bit q coin v 1 ≤ key-count signal key-bit q coin v 0 + 1)
 
 pub record Lawful (k : Numbers) (f : Functions) : Type 0 where
   pub in-range : InRange k
@@ -53,12 +62,12 @@ pub record Lawful (k : Numbers) (f : Functions) : Type 0 where
   pub signal-range : (x coin : ℕ) → x < k .q → coin < k .coins → f .signal x coin < 2 ^ (k .«signal_width»)
   pub bit-range : (x coin : ℕ) → x < k .q → coin < k .coins → f .key-bit x coin < 2
   pub read-range : (y signal : ℕ) → y < k .q → signal < 2 ^ (k .«signal_width») → f .read y signal < 2
-  -- rounding stays in 0 .. p, and moves a residue by a multiple of step of size at most r
+  -- 1. rounding stays in 0 .. p, and moves a residue by a multiple of step of size at most r
   pub round-range : (x : ℕ) → x < k .q → f .round x ≤ k .p
   pub round-near : (x : ℕ) → x < k .q → MultipleWithin (k .step) (k .r) (pos (f .recover (f .round x)) -ℤ pos x)
-  -- a residue that differs by a multiple of step of size at most tau reads the same key bit
-  pub read-tolerant : (x coin : ℕ) (d : ℤ) → x < k .q → coin < k .coins → MultipleWithin (k .step) (k .tau) d → f .read (residue (k .q) (pos x +ℤ d)) (f .signal x coin) ≡ f .key-bit x coin
-  -- a signal tells nothing of the key bit, but for one residue
-  pub balanced : (coin signal : ℕ) → coin < k .coins → signal < 2 ^ (k .«signal_width») → (key-count f (k .q) coin signal 0 ≤ key-count f (k .q) coin signal 1 + 1) × (key-count f (k .q) coin signal 1 ≤ key-count f (k .q) coin signal 0 + 1)
-  -- what two products with errors and roundings can differ by is tolerated
+  -- 2. differences up to tau are borne
+  pub reads-within : ReadsWithin (k .q) (k .coins) (f .signal) (f .key-bit) (k .step) (k .tau) (f .read)
+  -- 3. a signal tells nothing of the key bit, but for one residue
+  pub balanced : Balanced (k .q) (k .coins) (f .signal) (f .key-bit) (k .«signal_width»)
+  -- 4. what two products with errors and roundings can differ by is borne
   pub within-tolerance : 2 * k .l * (k .step * k .e + k .r) ≤ k .tau

@@ -38,8 +38,14 @@ fn numbers_out_of_range() -> Result<(), Fail> {
 fn signals_and_coins_out_of_range() -> Result<(), Fail> {
     check_eq(House::<S, Ding>::read(0, 2), Err(Fault::OutOfRange(0)))?;
     check_eq(House::<S, Okcn>::read(0, 4), Err(Fault::OutOfRange(0)))?;
-    check_eq(House::<S, Ding>::reconcile(0, 2), Err(Fault::BadCoin(0)))?;
-    check_eq(House::<S, Okcn>::reconcile(0, 255), Err(Fault::BadCoin(0)))?;
+    check_eq(
+        House::<S, Ding>::reconcile(0, 2),
+        Err(Fault::CoinOutOfRange(0)),
+    )?;
+    check_eq(
+        House::<S, Okcn>::reconcile(0, 255),
+        Err(Fault::CoinOutOfRange(0)),
+    )?;
     check_eq(
         House::<S, Ding>::reconcile(12289, 2),
         Err(Fault::OutOfRange(0)),
@@ -56,7 +62,10 @@ fn surveys() -> Result<(), Fail> {
         count_keys::<House<S, Ding>>(0, 2),
         Err(Fault::OutOfRange(0)),
     )?;
-    check_eq(count_keys::<House<S, Ding>>(2, 1), Err(Fault::BadCoin(0)))?;
+    check_eq(
+        count_keys::<House<S, Ding>>(2, 1),
+        Err(Fault::CoinOutOfRange(0)),
+    )?;
     check_eq(
         count_keys::<House<S, Ding>>(2, 2),
         Err(Fault::OutOfRange(0)),
@@ -82,7 +91,7 @@ fn reports() -> Result<(), Fail> {
         Fault::WrongLength(1),
         Fault::OutOfRange(2),
         Fault::SumTooLarge(3),
-        Fault::BadCoin(4),
+        Fault::CoinOutOfRange(4),
         Fault::SourceSpent(5),
     ];
     for (i, fault) in faults.iter().enumerate() {

@@ -14,15 +14,18 @@ use Rattle.std.proofs.shelf.Tests.{cases-lt, cond-both}
 use Rattle.ring.specs.Residues.{residue, signed, IsModulus}
 use Rattle.ring.proofs.Residues.{residue-below, residue-pos, residue-over, signed-low, signed-high}
 use Rattle.profile.specs.Counts.{count}
-use Rattle.profile.specs.Laws.{MultipleWithin}
-use Rattle.reconcile.specs.Reconcilers.{key-count-at, tolerance, Reconciles, Sound}
+use Rattle.profile.specs.Laws.{MultipleWithin, key-count}
+use Rattle.reconcile.specs.Reconcilers.{tolerance, Reconciles, Sound}
 use Rattle.reconcile.specs.Ding.{within, ding-signal, ding-read, ding-functions, ding-numbers}
 use Rattle.reconcile.proofs.Counts.{count-parts, count-none, count-parity}
 use Rattle.reconcile.proofs.Near.{Near, above, below, above-wrapped, below-wrapped, residue-near, near-itself}
 
+abbrev ding-count : ℕ → ℕ → ℕ → ℕ → ℕ
+ding-count q = key-count (ding-signal q) (λ x coin. ding-read q x (ding-signal q x coin)) q
+
 -- the two key bits differ by at most one in how many residues they have
 abbrev Balanced : ℕ → ℕ → ℕ → Type 0
-Balanced q coin signal = (key-count-at ding-functions q coin signal 0 ≤ key-count-at ding-functions q coin signal 1 + 1) × (key-count-at ding-functions q coin signal 1 ≤ key-count-at ding-functions q coin signal 0 + 1)
+Balanced q coin signal = (ding-count q coin signal 0 ≤ ding-count q coin signal 1 + 1) × (ding-count q coin signal 1 ≤ ding-count q coin signal 0 + 1)
 
 -- the test where each residue has the signal s, and the x-th has the parity of x + k for its key bit
 abbrev passes-part : (signal bit s k : ℕ) → ℕ → Bool
@@ -152,7 +155,7 @@ module _ (q : ℕ) (is : IsModulus q) where
     passes-at : (signal bit x : ℕ) {s t : ℕ} → ding-signal q x coin ≡ s → ding-read q x s ≡ t → passes signal bit x ≡ (eqb s signal && eqb t bit)
     passes-at signal bit x e r = cc
 
-    key-count-by-parts : (signal bit : ℕ) → key-count-at ding-functions q coin signal bit ≡ count (passes-part signal bit 0 0) a + (count (passes-part signal bit 1 (a + ((q - 1) / 2 + 1))) b + count (passes-part signal bit 0 (a + b + 1)) d)
+    key-count-by-parts : (signal bit : ℕ) → ding-count q coin signal bit ≡ count (passes-part signal bit 0 0) a + (count (passes-part signal bit 1 (a + ((q - 1) / 2 + 1))) b + count (passes-part signal bit 0 (a + b + 1)) d)
     key-count-by-parts signal bit =
         let low : (x : ℕ) → x < a → passes signal bit x ≡ passes-part signal bit 0 0 x =
         λ x h. passes-at signal bit x (inner-low wide x coin (omega arith) small (omega arith)) (read-low x (omega arith) ∙ omega arith) in
@@ -211,8 +214,8 @@ module _ (q : ℕ) (is : IsModulus q) where
       (λ wide. balanced-wide q is wide coin signal small h)
       (cases-lt q 4)
 
-  read-tolerant : (x coin : ℕ) (d : ℤ) → x < q → coin < 2 → MultipleWithin 2 (tolerance ding-numbers q) d → ding-read q (residue q (pos x +ℤ d)) (ding-signal q x coin) ≡ ding-read q x (ding-signal q x coin)
-  read-tolerant x coin d h small within =
+  reads-within : (x coin : ℕ) (d : ℤ) → x < q → coin < 2 → MultipleWithin 2 (tolerance ding-numbers q) d → ding-read q (residue q (pos x +ℤ d)) (ding-signal q x coin) ≡ ding-read q x (ding-signal q x coin)
+  reads-within x coin d h small within =
       let y : ℕ = residue q (pos x +ℤ d) in
       let k : y < q = residue-below q (pos x +ℤ d) (omega arith) in
       let near : Near q x (natAbs d) y = residue-near q x d h (omega arith) in
@@ -228,7 +231,7 @@ module _ (q : ℕ) (is : IsModulus q) where
     read-range = λ y signal h small. mod-lt _ (lit< tt);
     tolerance-below = omega arith;
     tolerance-least = omega arith;
-    read-tolerant = read-tolerant;
+    reads-within = reads-within;
     balanced = balanced;
   }
 

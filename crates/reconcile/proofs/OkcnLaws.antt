@@ -18,11 +18,12 @@ use Rattle.std.specs.declared.result.Result.the-variants.{Ok, Err}
 use Rattle.ring.proofs.Residues.{residue-below}
 use Rattle.ring.specs.Residues.{residue, IsModulus}
 use Rattle.ring.specs.declared.fault.Fault.{Fault}
-use Rattle.ring.specs.declared.fault.Fault.the-variants.{OutOfRange, BadCoin}
+use Rattle.ring.specs.declared.fault.Fault.the-variants.{OutOfRange, CoinOutOfRange}
 use Rattle.profile.specs.Answers.{reconciled}
+use Rattle.profile.specs.Laws.{key-count}
 use Rattle.reconcile.proofs.Counts.{count-interval}
 use Rattle.reconcile.specs.Okcn.{okcn-signal, okcn-key-bit, okcn-read, okcn-functions, okcn-numbers}
-use Rattle.reconcile.specs.Reconcilers.{key-count-at, Reconciles, Sound}
+use Rattle.reconcile.specs.Reconcilers.{Reconciles, Sound}
 
 -- x + d, for a d of size at most bound, has the residue of an m that is as near to x + q
 pub residue-shifted : (q x bound : ℕ) (d : ℤ) → 0 < q → bound < q → natAbs d ≤ bound → (m : ℕ) × (residue q (pos x +ℤ d) ≡ m % q) × (m ≤ x + q + bound) × (x + q ≤ m + bound)
@@ -61,7 +62,7 @@ module _ (q z : ℕ) where
 pub reconciled-from : (q x coin z v : ℕ) (half : ℕ × ℕ) → x < q → coin < 2 → z ≡ 2 * x + coin → half ≡ (z / q, z % q) → v ≡ 4 * half .1 / q → Ok (v, half .0) ≡ reconciled q 2 (okcn-signal q) (okcn-key-bit q) x coin
 reconciled-from q x coin z v half h l z-is half-is v-is =
     let is : _≡_ {A = Result (ℕ × ℕ) Fault} (Ok (v, half .0)) (Ok (okcn-signal q x coin, okcn-key-bit q x coin)) = cc in
-    is ∙ cond-below coin 2 _ (Err (BadCoin 0)) l ∙ cond-below x q _ (Err (OutOfRange 0)) h
+    is ∙ cond-below coin 2 _ (Err (CoinOutOfRange 0)) l ∙ cond-below x q _ (Err (OutOfRange 0)) h
 
 module _ (q x coin : ℕ) (positive : 0 < q) where
   -- the number of the band, of the eight, that z = 2x + coin lies in
@@ -131,7 +132,7 @@ module _ (q x coin : ℕ) (at-least : 3 ≤ q) (h : x < q) (l : coin < 2) where
 
 module _ (q coin b v : ℕ) (positive : 0 < q) (l : coin < 2) (bit : b < 2) (few : v < 4) where
   -- the numbers 8 x + 4 coin in a band, which is q wide
-  pub band-count : (q / 8 ≤ key-count-at okcn-functions q coin v b) × (key-count-at okcn-functions q coin v b ≤ q / 8 + 1)
+  pub band-count : (q / 8 ≤ key-count (okcn-signal q) (okcn-key-bit q) q coin v b) × (key-count (okcn-signal q) (okcn-key-bit q) q coin v b ≤ q / 8 + 1)
   band-count =
       let start = (4 * b + v) * q in
       let low = (start + 7 - 4 * coin) / 8 in
@@ -149,7 +150,7 @@ okcn-reconciles q is =
       read-range = λ y signal h l. residue-below 2 _ (omega arith);
       tolerance-below = omega arith;
       tolerance-least = omega arith;
-      read-tolerant = λ x coin d h l near. read-near q x coin (is .at-least) h l d (near .size);
+      reads-within = λ x coin d h l near. read-near q x coin (is .at-least) h l d (near .size);
       balanced = λ coin signal l few.
           let lower = band-count q coin 0 signal positive l (omega arith) few in
           let upper = band-count q coin 1 signal positive l (omega arith) few in

@@ -1,13 +1,9 @@
 -- What a reconciler is: its numbers, its functions for every modulus, and the laws that it brings to a profile.
-use mathlib.Core.Bool.{_&&_}
 use mathlib.Core.Logic.{_⊎_}
 use mathlib.Core.Path.{_≡_}
 use Prim.Native.Nat.{ℕ, _+_, _-_, _*_, _/_, _^_, _<_, _≤_}
-use lib.Dec.{eqb}
-use lib.IntN.{ℤ, pos, _+ℤ_}
-use Rattle.ring.specs.Residues.{residue, IsModulus}
-use Rattle.profile.specs.Counts.{count}
-use Rattle.profile.specs.Laws.{MultipleWithin}
+use Rattle.ring.specs.Residues.{IsModulus}
+use Rattle.profile.specs.Laws.{ReadsWithin, Balanced}
 use Rattle.reconcile.specs.declared.reconciler.ReconcilerNumbers.{ReconcilerNumbers}
 
 -- each takes the modulus first
@@ -19,10 +15,6 @@ pub record Reconciliation : Type 0 where
 -- the largest difference that is borne at the modulus q
 abbrev pub tolerance : ReconcilerNumbers → ℕ → ℕ
 tolerance k q = (k .tolerance .times * q - k .tolerance .less) / 2 ^ (k .tolerance .shift)
-
--- the residues below q that a coin gives this signal and this key bit
-abbrev pub key-count-at : Reconciliation → ℕ → ℕ → ℕ → ℕ → ℕ
-key-count-at f q coin signal bit = count (λ x. eqb (f .signal q x coin) signal && eqb (f .key-bit q x coin) bit) q
 
 pub record SmallNumbers (k : ReconcilerNumbers) : Type 0 where
   pub step-is : (k .step ≡ 1) ⊎ (k .step ≡ 2)
@@ -41,8 +33,8 @@ pub record Reconciles (k : ReconcilerNumbers) (f : Reconciliation) (q : ℕ) : T
   pub tolerance-below : tolerance k q < q
   -- every reconciler bears an eighth of the circle for each unit of its step
   pub tolerance-least : k .step * (q / 8 - 1) ≤ tolerance k q
-  pub read-tolerant : (x coin : ℕ) (d : ℤ) → x < q → coin < k .coins → MultipleWithin (k .step) (tolerance k q) d → f .read q (residue q (pos x +ℤ d)) (f .signal q x coin) ≡ f .key-bit q x coin
-  pub balanced : (coin signal : ℕ) → coin < k .coins → signal < 2 ^ (k .«signal_width») → (key-count-at f q coin signal 0 ≤ key-count-at f q coin signal 1 + 1) × (key-count-at f q coin signal 1 ≤ key-count-at f q coin signal 0 + 1)
+  pub reads-within : ReadsWithin q (k .coins) (f .signal q) (f .key-bit q) (k .step) (tolerance k q) (f .read q)
+  pub balanced : Balanced q (k .coins) (f .signal q) (f .key-bit q) (k .«signal_width»)
 
 -- a reconciler, for every modulus
 pub record Sound (k : ReconcilerNumbers) (f : Reconciliation) : Type 0 where

@@ -37,7 +37,7 @@ pub impl Reconciler for Ding as DingReconciler {
             0 => 1,
             1 if -r + 1 <= s && s <= r + 1 => 0,
             1 => 1,
-            _ => return Err(Fault::BadCoin(0)),
+            _ => return Err(Fault::CoinOutOfRange(0)),
         };
         let bit = Self::read(q, x, signal)?;
         Ok((signal, bit))

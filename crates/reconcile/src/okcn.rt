@@ -53,7 +53,7 @@ pub impl Reconciler for Okcn as OkcnReconciler {
         let z = match coin {
             0 => 2 * x,
             1 => 2 * x + 1,
-            _ => return Err(Fault::BadCoin(0)),
+            _ => return Err(Fault::CoinOutOfRange(0)),
         };
         // the half of 0..2q that z lies in, and how far in; no division
         let (key_bit, rest) = if z < q { (0, z) } else { (1, z - q) };

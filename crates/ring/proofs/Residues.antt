@@ -9,7 +9,7 @@ use lib.IntN.{ℤ, pos, negsuc, natAbs, _+ℤ_, _-ℤ_}
 use Rattle.std.proofs.shelf.Signed.{ints}
 use Rattle.std.proofs.shelf.Tests.{cond-true, cond-false, le-leb, lt-leb}
 use Rattle.std.specs.declared.result.Result.the-variants.{Ok}
-use Rattle.ring.specs.Residues.{residue, signed, SignedForm}
+use Rattle.ring.specs.Residues.{residue, signed, IsSignedForm}
 
 pub residue-below : (q : ℕ) (z : ℤ) → 0 < q → residue q z < q
 residue-below q (pos n) h = mod-lt n h
@@ -33,8 +33,8 @@ module _ (q x : ℕ) (odd : q % 2 ≡ 1) (h : x < q) where
   signed-high high =
       cond-false (leb x ((q - 1) / 2)) (pos x) (pos x -ℤ pos q) (lt-leb x ((q - 1) / 2) high) ∙ omega (arith, ints)
 
-  pub signed-low-form : x ≤ (q - 1) / 2 → SignedForm q x (Ok (pos x))
+  pub signed-low-form : x ≤ (q - 1) / 2 → IsSignedForm q x (Ok (pos x))
   signed-low-form low = (residue-pos q x h, omega arith)
 
-  pub signed-high-form : (q - 1) / 2 < x → SignedForm q x (Ok (negsuc (q - 1 - x)))
+  pub signed-high-form : (q - 1) / 2 < x → IsSignedForm q x (Ok (negsuc (q - 1 - x)))
   signed-high-form high = (residue-negsuc q (q - 1 - x) (omega arith) ∙ omega arith, omega arith)

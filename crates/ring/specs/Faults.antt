@@ -1,7 +1,7 @@
 -- What is reported of a fault of layer 1, the ring: its layer, its number and its place.
 use Prim.Native.Nat.{ℕ}
 use Rattle.ring.specs.declared.fault.Fault.{Fault}
-use Rattle.ring.specs.declared.fault.Fault.the-variants.{WrongLength, OutOfRange, SumTooLarge, BadCoin, SourceSpent}
+use Rattle.ring.specs.declared.fault.Fault.the-variants.{WrongLength, OutOfRange, SumTooLarge, CoinOutOfRange, SourceSpent}
 
 pub record Report : Type 0 where
   pub layer : ℕ
@@ -12,7 +12,7 @@ abbrev pub report : Fault → Report
 report (WrongLength place) = record { layer = 1; number = 1; place = place }
 report (OutOfRange place) = record { layer = 1; number = 2; place = place }
 report (SumTooLarge place) = record { layer = 1; number = 3; place = place }
-report (BadCoin place) = record { layer = 1; number = 4; place = place }
+report (CoinOutOfRange place) = record { layer = 1; number = 4; place = place }
 report (SourceSpent place) = record { layer = 1; number = 5; place = place }
 
 abbrev pub layer-of : Fault → ℕ

@@ -35,6 +35,6 @@ abbrev pub signed-answer : ℕ → ℕ → Result ℤ Fault
 signed-answer q x = cond (ltb x q) (Ok (signed q x)) (Err (OutOfRange 0))
 
 -- what is answered has x for its residue, and no more than (q-1)/2 for its size
-abbrev pub SignedForm : ℕ → ℕ → Result ℤ Fault → Type 0
-SignedForm q x (Ok s) = (residue q s ≡ x) × (natAbs s ≤ (q - 1) / 2)
-SignedForm q x (Err fault) = q ≤ x
+abbrev pub IsSignedForm : ℕ → ℕ → Result ℤ Fault → Type 0
+IsSignedForm q x (Ok s) = (residue q s ≡ x) × (natAbs s ≤ (q - 1) / 2)
+IsSignedForm q x (Err fault) = q ≤ x

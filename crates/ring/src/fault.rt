@@ -13,7 +13,7 @@ pub enum Fault {
     // the running sum of sizes passes its limit
     SumTooLarge(usize),
     // a coin out of range
-    BadCoin(usize),
+    CoinOutOfRange(usize),
     // the byte source is used up
     SourceSpent(usize),
 }
@@ -32,7 +32,7 @@ impl Fault {
             Fault::WrongLength(_) => 1,
             Fault::OutOfRange(_) => 2,
             Fault::SumTooLarge(_) => 3,
-            Fault::BadCoin(_) => 4,
+            Fault::CoinOutOfRange(_) => 4,
             Fault::SourceSpent(_) => 5,
         }
     }
@@ -44,7 +44,7 @@ impl Fault {
             Fault::WrongLength(place)
             | Fault::OutOfRange(place)
             | Fault::SumTooLarge(place)
-            | Fault::BadCoin(place)
+            | Fault::CoinOutOfRange(place)
             | Fault::SourceSpent(place) => place,
         }
     }

@@ -2,7 +2,7 @@
 use crate::fault::Fault;
 use crate::modulus::Modulus;
 ghost use mathlib.Core.Path.{_≡_};
-ghost use Rattle.ring.specs.Residues.{modulus-from, signed-answer, SignedForm};
+ghost use Rattle.ring.specs.Residues.{modulus-from, signed-answer, IsSignedForm};
 
 impl Modulus {
     // The modulus q, unless q is even, below 3, or 2^23 or more.
@@ -25,7 +25,7 @@ impl Modulus {
     // The signed form of the residue x, in -(q-1)/2..=(q-1)/2.
     pub fn signed(self, x: u32) -> Result<i32, Fault>
         ensures value { λ r. ⌜ r ≡ signed-answer (self .q) x ⌝ }
-        ensures form { λ r. ⌜ SignedForm (self .q) x r ⌝ }
+        ensures is_signed_form { λ r. ⌜ IsSignedForm (self .q) x r ⌝ }
     {
         if x >= self.q {
             return Err(Fault::OutOfRange(0));

@@ -52,16 +52,16 @@ count-more passes n = ap (count passes) (add-one n)
 
 module _ (f : Functions) (n coin signal bit : ℕ) where
   -- a residue with the signal and the key bit is one more, and any other is none
-  pub key-count-yes : f .signal n coin ≡ signal → f .key-bit n coin ≡ bit → key-count f (n + 1) coin signal bit ≡ key-count f n coin signal bit + 1
-  key-count-yes s b = count-more _ n ∙ ap (λ t. key-count f n coin signal bit + cond t 1 0) (and-from _ _ (eq-eqb _ _ s) (eq-eqb _ _ b))
+  pub key-count-yes : f .signal n coin ≡ signal → f .key-bit n coin ≡ bit → key-count (f .signal) (f .key-bit) (n + 1) coin signal bit ≡ key-count (f .signal) (f .key-bit) n coin signal bit + 1
+  key-count-yes s b = count-more _ n ∙ ap (λ t. key-count (f .signal) (f .key-bit) n coin signal bit + cond t 1 0) (and-from _ _ (eq-eqb _ _ s) (eq-eqb _ _ b))
 
-  pub key-count-other-signal : (f .signal n coin ≡ signal → ⊥) → key-count f (n + 1) coin signal bit ≡ key-count f n coin signal bit
+  pub key-count-other-signal : (f .signal n coin ≡ signal → ⊥) → key-count (f .signal) (f .key-bit) (n + 1) coin signal bit ≡ key-count (f .signal) (f .key-bit) n coin signal bit
   key-count-other-signal s =
-      count-more _ n ∙ (ap (λ t. key-count f n coin signal bit + cond t 1 0) (and-left _ _ (ne-eqb _ _ s)) ∙ add-zero _)
+      count-more _ n ∙ (ap (λ t. key-count (f .signal) (f .key-bit) n coin signal bit + cond t 1 0) (and-left _ _ (ne-eqb _ _ s)) ∙ add-zero _)
 
-  pub key-count-other-bit : (f .key-bit n coin ≡ bit → ⊥) → key-count f (n + 1) coin signal bit ≡ key-count f n coin signal bit
+  pub key-count-other-bit : (f .key-bit n coin ≡ bit → ⊥) → key-count (f .signal) (f .key-bit) (n + 1) coin signal bit ≡ key-count (f .signal) (f .key-bit) n coin signal bit
   key-count-other-bit b =
-      count-more _ n ∙ (ap (λ t. key-count f n coin signal bit + cond t 1 0) (and-right _ _ (ne-eqb _ _ b)) ∙ add-zero _)
+      count-more _ n ∙ (ap (λ t. key-count (f .signal) (f .key-bit) n coin signal bit + cond t 1 0) (and-right _ _ (ne-eqb _ _ b)) ∙ add-zero _)
 
 pub count-within : (passes : ℕ → Bool) (n : ℕ) → count passes n ≤ n
 count-within passes zero = omega arith

@@ -9,7 +9,7 @@ use Rattle.std.specs.Numbers.{minZ, maxZ}
 use Rattle.std.specs.declared.result.Result.{Result}
 use Rattle.std.specs.declared.result.Result.the-variants.{Ok, Err}
 use Rattle.ring.specs.declared.fault.Fault.{Fault}
-use Rattle.ring.specs.declared.fault.Fault.the-variants.{OutOfRange, BadCoin}
+use Rattle.ring.specs.declared.fault.Fault.the-variants.{OutOfRange, CoinOutOfRange}
 use Rattle.profile.specs.Counts.{count}
 use Rattle.profile.specs.Laws.{Functions, key-count}
 use Rattle.profile.specs.declared.numbers.Numbers.{Numbers}
@@ -53,6 +53,6 @@ abbrev pub keys-answer : Numbers → Functions → ℕ → ℕ → Result KeyCou
 keys-answer k f coin signal =
     cond (ltb signal (2 ^ (k .«signal_width»)))
     (cond (ltb coin (k .coins))
-    (Ok (record { zeros = key-count f (k .q) coin signal 0; ones = key-count f (k .q) coin signal 1 }))
-    (Err (BadCoin 0)))
+    (Ok (record { zeros = key-count (f .signal) (f .key-bit) (k .q) coin signal 0; ones = key-count (f .signal) (f .key-bit) (k .q) coin signal 1 }))
+    (Err (CoinOutOfRange 0)))
     (Err (OutOfRange 0))

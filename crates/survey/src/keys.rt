@@ -19,7 +19,7 @@ pub fn count_keys<P: Profile>(coin: u8, signal: u8) -> Result<KeyCounts, Fault>
         return Err(Fault::OutOfRange(0));
     }
     if u32::from(coin) >= k.coins {
-        return Err(Fault::BadCoin(0));
+        return Err(Fault::CoinOutOfRange(0));
     }
     let mut counts = KeyCounts { zeros: 0, ones: 0 };
     for x in 0..k.q {

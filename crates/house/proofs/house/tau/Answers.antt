@@ -13,5 +13,5 @@ mul-bears g c =
     let times-most : times ≤ 16 =
     omega (arith, ap (λ (k : ReconcilerNumbers). k .tolerance .times) (c .stated .ensures), g .K·Reconciler·met .sound .small .times-most) in
     let q-most : q ≤ 2 ^ 23 =
-    omega (arith, ap (λ (s : Sizes). s .q) (c .stated-2 .ensures), g .S·NumberSet·met .fair .modulus .below) in
+    omega (arith, ap (λ (s : Sizes). s .q) (c .stated-2 .ensures), g .S·NumberSet·met .admissible .modulus .below) in
     omega (arith, mul-le times q 16 (2 ^ 23) times-most q-most)

@@ -1,5 +1,5 @@
-use Rattle.house.proofs.FairSets.{fair-s}
+use Rattle.house.proofs.AdmissibleSets.{admissible-s}
 use Rattle.house.proofs.number_set.SNumbers.the-impl.Needs as need
 
-pub fair-law : need.fair-law
-fair-law = fair-s
+pub admissible-law : need.admissible-law
+admissible-law = admissible-s

@@ -1,5 +1,5 @@
-use Rattle.house.proofs.FairSets.{fair-t}
+use Rattle.house.proofs.AdmissibleSets.{admissible-t}
 use Rattle.house.proofs.number_set.TNumbers.the-impl.Needs as need
 
-pub fair-law : need.fair-law
-fair-law = fair-t
+pub admissible-law : need.admissible-law
+admissible-law = admissible-t

@@ -1,5 +1,5 @@
-use Rattle.house.proofs.FairSets.{fair-w}
+use Rattle.house.proofs.AdmissibleSets.{admissible-w}
 use Rattle.house.proofs.number_set.WNumbers.the-impl.Needs as need
 
-pub fair-law : need.fair-law
-fair-law = fair-w
+pub admissible-law : need.admissible-law
+admissible-law = admissible-w

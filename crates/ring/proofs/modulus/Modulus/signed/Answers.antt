@@ -7,7 +7,7 @@ use mir.Val.{toZ, ofZ}
 use Rattle.std.proofs.shelf.Signed.{ints}
 use Rattle.std.proofs.shelf.Tests.{cond-below}
 use Rattle.std.specs.declared.result.Result.the-variants.{Ok, Err}
-use Rattle.ring.specs.Residues.{signed, SignedForm}
+use Rattle.ring.specs.Residues.{signed, IsSignedForm}
 use Rattle.ring.proofs.Residues.{signed-low, signed-high, signed-low-form, signed-high-form}
 use Rattle.ring.proofs.modulus.Modulus.signed.Needs as need
 
@@ -19,7 +19,7 @@ returns-then-x-half c =
     let is : toZ w32 x ≡ pos x = omega (arith, ints) in
     record {
       value = ap Ok (is ∙ sym (signed-low q x (c .args .self .odd) (c .if-x-self .left) low)) ∙ cond-below x q (Ok (signed q x)) (Err _) (c .if-x-self .left);
-      form = subst (λ (s : ℤ). SignedForm q x (Ok s)) (sym is) (signed-low-form q x (c .args .self .odd) (c .if-x-self .left) low);
+      is-signed-form = subst (λ (s : ℤ). IsSignedForm q x (Ok s)) (sym is) (signed-low-form q x (c .args .self .odd) (c .if-x-self .left) low);
     }
 
 pub returns-else-x-half : need.returns-else-x-half
@@ -30,5 +30,5 @@ returns-else-x-half c =
     let is : toZ w32 (ofZ w32 (toZ w32 x -ℤ toZ w32 q)) ≡ negsuc (q - 1 - x) = omega (arith, ints) in
     record {
       value = ap Ok (is ∙ sym (signed-high q x (c .args .self .odd) (c .if-x-self .left) high)) ∙ cond-below x q (Ok (signed q x)) (Err _) (c .if-x-self .left);
-      form = subst (λ (s : ℤ). SignedForm q x (Ok s)) (sym is) (signed-high-form q x (c .args .self .odd) (c .if-x-self .left) high);
+      is-signed-form = subst (λ (s : ℤ). IsSignedForm q x (Ok s)) (sym is) (signed-high-form q x (c .args .self .odd) (c .if-x-self .left) high);
     }
