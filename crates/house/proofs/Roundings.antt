@@ -10,7 +10,7 @@ use Rattle.std.proofs.shelf.Signed.{ints}
 use Rattle.std.proofs.shelf.Tests.{cases-lt, cases-order, cond-both}
 use Rattle.std.proofs.shelf.Ways.{tells}
 use Rattle.profile.specs.Laws.{MultipleWithin}
-use Rattle.house.specs.Rounding.{recover, candidate, round, argmin, distance, IsRecovered, IsRounded}
+use Rattle.house.specs.Rounding.{recover, candidate, round, argmin, distance, IsRecovered, IsRounded, Tied, Midway}
 use Rattle.house.proofs.Classes.{by-step, next-class, next-least, lowered, lowered-class, above-class, class-apart, distance-multiple, multiple-below, place-is, place-up, place-within}
 use Rattle.house.proofs.Floors.{floor-grows, floor-gap, floor-most}
 
@@ -112,11 +112,11 @@ module _ (q p step : ℕ) (parts : 0 < p) (less : p < q) (either : (step ≡ 1) 
 
   pub round-is : (x : ℕ) → IsRounded q p step x (round q p step x)
   round-is x =
-      let cost : ℕ → ℕ = λ i. distance (recover q p step (candidate q p step x i)) x in
+      let cost : ℕ → ℕ = λ i. distance (recover q p step (candidate step x i)) x in
       let last = (p - x % step) / step in
       let first = argmin cost last in
       let place : ℕ → ℕ = λ z. (z - x % step) / step in
-      let at : (z : ℕ) → z % step ≡ x % step → z ≡ candidate q p step x (place z) = place-is step either x in
+      let at : (z : ℕ) → z % step ≡ x % step → z ≡ candidate step x (place z) = place-is step either x in
       record {
         range = place-within step either x p first parts (argmin-le cost last);
         class = add-mul-mod-self-left (x % step) step first ∙ mod-mod x step;
@@ -136,6 +136,31 @@ module _ (q p step : ℕ) (parts : 0 < p) (less : p < q) (either : (step ≡ 1) 
       let before = h .smallest r (is .range) (is .class) (omega arith) in
       let after = is .smallest y (h .range) (h .class) (omega arith) in
       omega arith
+
+  -- ---- ties
+
+  module _ (x : ℕ) where
+    after-class : (y : ℕ) → y % step ≡ x % step → (y + step) % step ≡ x % step
+    after-class y class = add-mod-right y step ∙ class
+
+    -- a rival lies above; were it not level with the next value, the next would be nearer
+    pub tied-midway : Tied q p step x (round q p step x) → Midway q p step x (round q p step x)
+    tied-midway (z, fits, class, other, same) =
+        let y = round q p step x in
+        let is = round-is x in
+        let from : y ≤ z = is .smallest z fits class same in
+        let apart : y < z = ⊎-elim (λ l. l) (λ l. absurd (other (omega arith))) (cases-lt y z) in
+        let up : y + step ≤ z = class-apart step either y z (is .class ∙ sym class) apart in
+        let near = is .nearest (y + step) (omega arith) (after-class y (is .class)) in
+        let strict = recover-step y (y + step) (le-refl _) in
+        let mono = recover-up (y + step) z up (class ∙ sym (after-class y (is .class))) in
+        (omega arith, omega arith)
+
+    pub midway-tied : Midway q p step x (round q p step x) → Tied q p step x (round q p step x)
+    midway-tied (room, sum) =
+        let y = round q p step x in
+        let strict = recover-step y (y + step) (le-refl _) in
+        (y + step, room, after-class y (round-is x .class), (λ e. omega arith), omega arith)
 
   -- last is the largest value whose floor is at most x
   module _ (x last : ℕ) (most : last * q / p ≤ x) (next : x < (last + 1) * q / p) where

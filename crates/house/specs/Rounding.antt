@@ -26,18 +26,18 @@ abbrev pub argmin : (ℕ → ℕ) → ℕ → ℕ
 argmin cost zero = zero
 argmin cost (suc last) = cheaper cost (argmin cost last) (suc last)
 
+-- the numbers that differ from x by a multiple of step, from the smallest on
+abbrev pub candidate : ℕ → ℕ → ℕ → ℕ
+candidate step x i = x % step + step * i
+
 module _ (q p step : ℕ) where
   -- the least integer at or above floor(y q / p) that differs from y by a multiple of step
   abbrev pub recover : ℕ → ℕ
   recover y = least-from (y * q / p) step (λ t. same-class step t y)
 
-  -- the numbers that differ from x by a multiple of step, from the smallest on
-  abbrev pub candidate : ℕ → ℕ → ℕ
-  candidate x i = x % step + step * i
-
   -- the candidate in 0 .. p that recovers nearest to x, the smaller at a tie
   abbrev pub round : ℕ → ℕ
-  round x = candidate x (argmin (λ i. distance (recover (candidate x i)) x) ((p - x % step) / step))
+  round x = candidate step x (argmin (λ i. distance (recover (candidate step x i)) x) ((p - x % step) / step))
 
   -- what it is to be recovered from y
   pub record IsRecovered (y t : ℕ) : Type 0 where
@@ -52,6 +52,18 @@ module _ (q p step : ℕ) where
     pub nearest : (z : ℕ) → z ≤ p → z % step ≡ x % step → distance (recover y) x ≤ distance (recover z) x
     pub smallest : (z : ℕ) → z ≤ p → z % step ≡ x % step → distance (recover z) x ≡ distance (recover y) x → y ≤ z
 
+  -- another value of the class of x recovers as near to x as y does
+  abbrev pub Tied : ℕ → ℕ → Type 0
+  Tied x y = (z : ℕ) × (z ≤ p) × (z % step ≡ x % step) × (z ≡ y → ⊥) × (distance (recover z) x ≡ distance (recover y) x)
+
+  -- x lies midway between what y and the next value of its class recover to
+  abbrev pub Midway : ℕ → ℕ → Type 0
+  Midway x y = (y + step ≤ p) × (recover y + recover (y + step) ≡ 2 * x)
+
 -- for every p from 1 to below q and every step, recovering and rounding are what they are called
 abbrev pub RoundingIsNearest : Type 0
 RoundingIsNearest = (q p step : ℕ) → 0 < p → p < q → (step ≡ 1) ⊎ (step ≡ 2) → ((y : ℕ) → IsRecovered q p step y (recover q p step y)) × ((x : ℕ) → IsRounded q p step x (round q p step x))
+
+-- a rounded value has a rival exactly where x lies midway between it and the next value
+abbrev pub TieIsMidway : Type 0
+TieIsMidway = (q p step : ℕ) → 0 < p → p < q → (step ≡ 1) ⊎ (step ≡ 2) → (x : ℕ) → (Tied q p step x (round q p step x) → Midway q p step x (round q p step x)) × (Midway q p step x (round q p step x) → Tied q p step x (round q p step x))

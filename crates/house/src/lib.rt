@@ -18,3 +18,4 @@ pub use sizes::Sizes;
 pub use theorems::bench_values_hold;
 pub use theorems::house_profiles;
 pub use theorems::rounding_is_nearest;
+pub use theorems::tie_is_midway;

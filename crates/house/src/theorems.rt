@@ -17,7 +17,7 @@ ghost use mathlib.Core.List.{[], _∷_};
 ghost use mathlib.Core.Path.{_≡_};
 ghost use Rattle.house.specs.Bench.{BenchValues};
 ghost use Rattle.house.specs.House.{t-ding, t-okcn, s-ding, s-okcn, w-ding, w-okcn, HouseProfilesLawful};
-ghost use Rattle.house.specs.Rounding.{RoundingIsNearest};
+ghost use Rattle.house.specs.Rounding.{RoundingIsNearest, TieIsMidway};
 
 // The numbers of the six house profiles, each of which is lawful.
 pub fn house_profiles() -> [Numbers; 6]
@@ -37,6 +37,11 @@ pub fn house_profiles() -> [Numbers; 6]
 // Recovering gives the least integer of its class, and rounding the nearest value of its class, for every modulus and step.
 pub fn rounding_is_nearest()
     ensures { λ _. ⌜ RoundingIsNearest ⌝ }
+{}
+
+// A residue is a tie, with another value as near, exactly where it lies midway between its rounded value and the next.
+pub fn tie_is_midway()
+    ensures { λ _. ⌜ TieIsMidway ⌝ }
 {}
 
 // What the functions of the profiles at T give at the values that were worked out by hand.
