@@ -21,6 +21,8 @@ use reconcile::OkcnReconciler;
 use ring::Fault;
 use std::io;
 use survey::count_keys;
+use survey::last_coin;
+use survey::last_signal;
 use survey::survey_rounding;
 
 // Why a sheet was not printed.
@@ -80,10 +82,8 @@ fn print_survey<P: Profile>(rt: &LibcRuntime) -> Result<(), Failure> {
     println!(rt, "  least distance      {}", rounding.least)?;
     println!(rt, "  largest distance    {}", rounding.largest)?;
     println!(rt, "  ties                {}", rounding.ties)?;
-    let k = P::stated();
-    let last_signal = ((1u32 << k.signal_width) - 1) as u8;
-    for coin in 0..k.coins as u8 {
-        for signal in 0..=last_signal {
+    for coin in 0..=last_coin::<P>() {
+        for signal in 0..=last_signal::<P>() {
             print_keys::<P>(rt, coin, signal)?;
         }
     }

@@ -2,12 +2,27 @@
 use profile::Profile;
 use ring::Fault;
 ghost use mathlib.Core.Path.{_≡_};
+ghost use Prim.Native.Nat.{_-_, _^_};
 ghost use Rattle.survey.specs.Surveys.{keys-answer};
 
 #[derive(Clone, Copy, PartialEq, Eq, Debug)]
 pub struct KeyCounts {
     pub zeros: u32,
     pub ones: u32,
+}
+
+// The largest coin.
+pub fn last_coin<P: Profile>() -> u8
+    ensures { λ r. ⌜ r ≡ P·Profile .numbers .coins - 1 ⌝ }
+{
+    (P::stated().coins - 1) as u8
+}
+
+// The largest signal.
+pub fn last_signal<P: Profile>() -> u8
+    ensures { λ r. ⌜ r ≡ 2 ^ (P·Profile .numbers .«signal_width») - 1 ⌝ }
+{
+    ((1u32 << P::stated().signal_width) - 1) as u8
 }
 
 // How many residues a coin gives this signal with key bit 0, and how many with key bit 1.
