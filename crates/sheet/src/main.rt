@@ -19,6 +19,7 @@ use reconcile::DingReconciler;
 use reconcile::Okcn;
 use reconcile::OkcnReconciler;
 use ring::Fault;
+use std::fmt::Display;
 use std::io;
 use survey::count_keys;
 use survey::last_coin;
@@ -44,27 +45,31 @@ impl From<Fault> for Failure as FailureFromSurvey {
     }
 }
 
+fn print_row(rt: &LibcRuntime, label: &str, value: impl Display + Drop) -> io::Result<()> {
+    println!(rt, "  {label:<20}{value}")
+}
+
 fn print_numbers(rt: &LibcRuntime, k: &Numbers) -> io::Result<()> {
-    println!(rt, "  numbers byte        {}", k.numbers_byte)?;
-    println!(rt, "  reconciler byte     {}", k.reconciler_byte)?;
-    println!(rt, "  n                   {}", k.n)?;
-    println!(rt, "  q                   {}", k.q)?;
-    println!(rt, "  p                   {}", k.p)?;
-    println!(rt, "  w                   {}", k.w)?;
-    println!(rt, "  E                   {}", k.e)?;
-    println!(rt, "  L                   {}", k.l)?;
-    println!(rt, "  step                {}", k.step)?;
-    println!(rt, "  R                   {}", k.r)?;
-    println!(rt, "  tau                 {}", k.tau)?;
-    println!(rt, "  coins               {}", k.coins)?;
-    println!(rt, "  signal bits         {}", k.signal_width)
+    print_row(rt, "numbers byte", k.numbers_byte)?;
+    print_row(rt, "reconciler byte", k.reconciler_byte)?;
+    print_row(rt, "n", k.n)?;
+    print_row(rt, "q", k.q)?;
+    print_row(rt, "p", k.p)?;
+    print_row(rt, "w", k.w)?;
+    print_row(rt, "E", k.e)?;
+    print_row(rt, "L", k.l)?;
+    print_row(rt, "step", k.step)?;
+    print_row(rt, "R", k.r)?;
+    print_row(rt, "tau", k.tau)?;
+    print_row(rt, "coins", k.coins)?;
+    print_row(rt, "signal bits", k.signal_width)
 }
 
 fn print_lengths<P: Profile>(rt: &LibcRuntime) -> io::Result<()> {
-    println!(rt, "  offer bytes         {}", offer_length::<P>())?;
-    println!(rt, "  answer bytes        {}", answer_length::<P>())?;
-    println!(rt, "  confirmation bytes  {}", confirmation_length())?;
-    println!(rt, "  key bytes           {}", key_length::<P>())
+    print_row(rt, "offer bytes", offer_length::<P>())?;
+    print_row(rt, "answer bytes", answer_length::<P>())?;
+    print_row(rt, "confirmation bytes", confirmation_length())?;
+    print_row(rt, "key bytes", key_length::<P>())
 }
 
 fn print_keys<P: Profile>(rt: &LibcRuntime, coin: u8, signal: u8) -> Result<(), Failure> {
@@ -79,9 +84,9 @@ fn print_keys<P: Profile>(rt: &LibcRuntime, coin: u8, signal: u8) -> Result<(), 
 
 fn print_survey<P: Profile>(rt: &LibcRuntime) -> Result<(), Failure> {
     let rounding = survey_rounding::<P>()?;
-    println!(rt, "  least distance      {}", rounding.least)?;
-    println!(rt, "  largest distance    {}", rounding.largest)?;
-    println!(rt, "  ties                {}", rounding.ties)?;
+    print_row(rt, "least distance", rounding.least)?;
+    print_row(rt, "largest distance", rounding.largest)?;
+    print_row(rt, "ties", rounding.ties)?;
     for coin in 0..=last_coin::<P>() {
         for signal in 0..=last_signal::<P>() {
             print_keys::<P>(rt, coin, signal)?;
