@@ -143,7 +143,7 @@ module _ (q p step : ℕ) (parts : 0 < p) (less : p < q) (either : (step ≡ 1) 
     after-class : (y : ℕ) → y % step ≡ x % step → (y + step) % step ≡ x % step
     after-class y class = add-mod-right y step ∙ class
 
-    -- a rival lies above; were it not level with the next value, the next would be nearer
+    -- a value as near lies above; did it not recover to what the next value recovers to, the next would be nearer
     pub tied-midway : Tied q p step x (round q p step x) → Midway q p step x (round q p step x)
     tied-midway (z, fits, class, other, same) =
         let y = round q p step x in

@@ -64,6 +64,6 @@ module _ (q p step : ℕ) where
 abbrev pub RoundingIsNearest : Type 0
 RoundingIsNearest = (q p step : ℕ) → 0 < p → p < q → (step ≡ 1) ⊎ (step ≡ 2) → ((y : ℕ) → IsRecovered q p step y (recover q p step y)) × ((x : ℕ) → IsRounded q p step x (round q p step x))
 
--- a rounded value has a rival exactly where x lies midway between it and the next value
+-- another value is as near as the rounded one exactly where x lies midway between that and the next
 abbrev pub TieIsMidway : Type 0
 TieIsMidway = (q p step : ℕ) → 0 < p → p < q → (step ≡ 1) ⊎ (step ≡ 2) → (x : ℕ) → (Tied q p step x (round q p step x) → Midway q p step x (round q p step x)) × (Midway q p step x (round q p step x) → Tied q p step x (round q p step x))

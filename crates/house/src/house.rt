@@ -26,12 +26,12 @@ fn modulus<S: NumberSet>() -> Modulus
     }
 }
 
-// The largest difference that the reconciler bears at the modulus of the number set.
+// The largest difference that the reconciler tolerates at the modulus of the number set.
 fn tau<S: NumberSet, K: Reconciler>() -> u32
     ensures { λ r. ⌜ r ≡ tolerance (K·Reconciler .numbers) (S·NumberSet .sizes .q) ⌝ }
 {
-    let bears = K::stated().tolerance;
-    (bears.times * S::stated().q).saturating_sub(bears.less) >> bears.shift
+    let formula = K::stated().tolerance;
+    (formula.times * S::stated().q).saturating_sub(formula.less) >> formula.shift
 }
 
 pub impl<S: NumberSet, K: Reconciler> Profile for House<S, K> as HouseProfile {

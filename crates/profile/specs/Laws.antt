@@ -65,9 +65,9 @@ pub record Lawful (k : Numbers) (f : Functions) : Type 0 where
   -- 1. rounding stays in 0 .. p, and moves a residue by a multiple of step of size at most r
   pub round-range : (x : ℕ) → x < k .q → f .round x ≤ k .p
   pub round-near : (x : ℕ) → x < k .q → MultipleWithin (k .step) (k .r) (pos (f .recover (f .round x)) -ℤ pos x)
-  -- 2. differences up to tau are borne
+  -- 2. differences up to tau are tolerated
   pub reads-within : ReadsWithin (k .q) (k .coins) (f .signal) (f .key-bit) (k .step) (k .tau) (f .read)
   -- 3. a signal tells nothing of the key bit, but for one residue
   pub balanced : Balanced (k .q) (k .coins) (f .signal) (f .key-bit) (k .«signal_width»)
-  -- 4. what two products with errors and roundings can differ by is borne
+  -- 4. what two products with errors and roundings can differ by is tolerated
   pub within-tolerance : 2 * k .l * (k .step * k .e + k .r) ≤ k .tau

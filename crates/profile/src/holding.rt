@@ -48,7 +48,7 @@ pub impl<const N: usize, const E: u32, const L: u32> SecretPlace for Place<N, E,
         }
     }
 
-    fn spend(&mut self) {
+    fn erase(&mut self) {
         self.coefficients.fill(0);
         self.filled = false;
     }

@@ -17,7 +17,7 @@ pub struct Numbers {
     pub step: u32,
     // the largest rounding distance
     pub r: u32,
-    // the largest difference that the reconciler bears
+    // the largest difference that the reconciler tolerates
     pub tau: u32,
     // how many coins there are
     pub coins: u32,

@@ -41,7 +41,7 @@ pub trait SecretPlace {
         ensures lawful { λ r. ⌜ BySome r (held (now (self .entry)) ≡ None) (λ xs. LawfulSecret bounds (now xs)) ⌝ };
 
     // Uses the secret up: the place is unfilled from here on, and its memory zero.
-    fn spend(&mut self)
+    fn erase(&mut self)
         ensures unfilled { λ _. ⌜ held (now (self .exit)) ≡ None ⌝ }
         ensures zeroed { λ _. ⌜ memory (now (self .exit)) ≡ zeros (bounds .n) ⌝ };
 }

@@ -1,4 +1,4 @@
-// Filling and spending a secret place.
+// Filling and erasing a secret place.
 use profile::Place;
 use profile::PlaceSecret;
 use profile::SecretPlace;
@@ -49,7 +49,7 @@ fn length_comes_before_size_and_size_before_sum(rt: LibcRuntime) -> Result<(), F
 }
 
 #[test]
-fn refused_keeps_accepted_replaces_spent_holds_nothing(rt: LibcRuntime) -> Result<(), Fail> {
+fn refused_keeps_accepted_replaces_erased_holds_nothing(rt: LibcRuntime) -> Result<(), Fail> {
     let mut place = SecretOfS::new(rt.alloc())?;
     check_eq(place.fill(&leading(3, 1)), Ok(()))?;
     check_eq(place.fill(&leading(3, 9)), Err(Fault::OutOfRange(0)))?;
@@ -58,6 +58,6 @@ fn refused_keeps_accepted_replaces_spent_holds_nothing(rt: LibcRuntime) -> Resul
     )?;
     check_eq(place.fill(&leading(4, 2)), Ok(()))?;
     check_eq(place.secret(), Some(&leading(4, 2)[0..512])).note("accepted, it holds the new one")?;
-    place.spend();
+    place.erase();
     check(place.secret().is_none())
 }

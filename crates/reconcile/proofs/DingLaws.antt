@@ -1,4 +1,4 @@
--- The Ding reconciler bears the differences that it states, and its signal leaves the key bit open.
+-- The Ding reconciler tolerates the differences that it states, and its signal leaves the key bit open.
 use mathlib.Core.Bool.{Bool, true, false, cond, _&&_}
 use mathlib.Core.Logic.{inr, ⊎-elim}
 use mathlib.Core.Path.{_≡_, refl, sym, ap, _∙_, subst}

@@ -12,7 +12,7 @@ pub record Reconciliation : Type 0 where
   pub key-bit : ℕ → ℕ → ℕ → ℕ
   pub read : ℕ → ℕ → ℕ → ℕ
 
--- the largest difference that is borne at the modulus q
+-- the largest difference that is tolerated at the modulus q
 abbrev pub tolerance : ReconcilerNumbers → ℕ → ℕ
 tolerance k q = (k .tolerance .times * q - k .tolerance .less) / 2 ^ (k .tolerance .shift)
 
@@ -31,7 +31,7 @@ pub record Reconciles (k : ReconcilerNumbers) (f : Reconciliation) (q : ℕ) : T
   pub bit-range : (x coin : ℕ) → x < q → coin < k .coins → f .key-bit q x coin < 2
   pub read-range : (y signal : ℕ) → y < q → signal < 2 ^ (k .«signal_width») → f .read q y signal < 2
   pub tolerance-below : tolerance k q < q
-  -- every reconciler bears an eighth of the circle for each unit of its step
+  -- every reconciler tolerates an eighth of the circle for each unit of its step
   pub tolerance-least : k .step * (q / 8 - 1) ≤ tolerance k q
   pub reads-within : ReadsWithin q (k .coins) (f .signal q) (f .key-bit q) (k .step) (tolerance k q) (f .read q)
   pub balanced : Balanced q (k .coins) (f .signal q) (f .key-bit q) (k .«signal_width»)

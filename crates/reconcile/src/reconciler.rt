@@ -6,7 +6,7 @@ ghost use Rattle.profile.specs.Answers.{reconciled, key-bit-read};
 ghost use Rattle.reconcile.specs.Reconcilers.{Reconciliation, Sound};
 ghost use Rattle.reconcile.specs.declared.reconciler.ReconcilerNumbers.{ReconcilerNumbers};
 
-// The largest difference that is borne at the modulus q is floor((times q - less) / 2^shift).
+// The largest difference that is tolerated at the modulus q is floor((times q - less) / 2^shift).
 #[derive(Clone, Copy, PartialEq, Eq, Debug)]
 pub struct Tolerance {
     pub times: u32,

@@ -6,8 +6,8 @@ use Rattle.reconcile.specs.declared.reconciler.ReconcilerNumbers.{ReconcilerNum
 use Rattle.house.specs.declared.sizes.Sizes.{Sizes}
 use Rattle.house.proofs.house.tau.Needs as need
 
-pub mul-bears : need.mul-bears
-mul-bears g c =
+pub mul-formula : need.mul-formula
+mul-formula g c =
     let q = c .stated-2 .result .q in
     let times = c .stated .result .tolerance .times in
     let times-most : times ≤ 16 =
