@@ -3,9 +3,9 @@ use mathlib.Core.Bool.{Bool, true, false, cond}
 use mathlib.Core.List.{List, [], _∷_}
 use mathlib.Core.Path.{_≡_}
 use denote.Ref.{RefT, now}
-use Prim.Native.Nat.{ℕ, _+_, _≤_}
+use Prim.Native.Nat.{ℕ, _+_, _<_, _≤_}
 use lib.Dec.{ltb, leb, eqb}
-use lib.ListN.{length, replicate}
+use lib.ListN.{length, getD, take, replicate}
 use lib.IntN.{ℤ, pos, natAbs}
 use Rattle.std.specs.shelf.Lists.{All, sumBy, leading}
 use Rattle.std.specs.declared.option.Option.{Option}
@@ -13,7 +13,7 @@ use Rattle.std.specs.declared.option.Option.the-variants.{Some, None}
 use Rattle.std.specs.declared.result.Result.{Result}
 use Rattle.std.specs.declared.result.Result.the-variants.{Ok, Err}
 use Rattle.ring.specs.declared.fault.Fault.{Fault}
-use Rattle.ring.specs.declared.fault.Fault.the-variants.{WrongLength, OutOfRange, SumTooLarge}
+use Rattle.ring.specs.declared.fault.Fault.the-variants.{WrongLength, OutOfRange, SumTooLarge, CoinOutOfRange, SourceSpent}
 use Rattle.profile.specs.declared.numbers.Numbers.{Numbers}
 
 -- n coefficients, each of size at most e, with sizes that add up to at most l
@@ -49,6 +49,31 @@ fill-answer b xs =
     (Err (SumTooLarge (front-summing 0 (b .l) xs)))
     (Ok tt)))
     (Err (WrongLength 1))
+
+-- i is the index of the first coefficient of a size above e
+pub record FirstBeyond (e : ℕ) (xs : List ℤ) (i : ℕ) : Type 0 where
+  pub inside : i < length xs
+  pub before : All (λ x. natAbs x ≤ e) (take i xs)
+  pub here : e < natAbs (getD xs i (pos 0))
+
+-- i is the index where the running sum of sizes first passes l
+pub record FirstPast (l : ℕ) (xs : List ℤ) (i : ℕ) : Type 0 where
+  pub inside : i < length xs
+  pub before : sumBy natAbs (take i xs) ≤ l
+  pub here : l < sumBy natAbs (take (i + 1) xs)
+
+-- what each answer says of the list: that it is a lawful secret, or where it first is not, by length, then size, then sum
+abbrev pub FillMeans : Bounds → List ℤ → Result (Unit {0}) Fault → Type 0
+FillMeans b xs (Ok _) = LawfulSecret b xs
+FillMeans b xs (Err (WrongLength place)) = (length xs ≡ b .n → ⊥) × (place ≡ 1)
+FillMeans b xs (Err (OutOfRange i)) = (length xs ≡ b .n) × FirstBeyond (b .e) xs i
+FillMeans b xs (Err (SumTooLarge i)) = (length xs ≡ b .n) × All (λ x. natAbs x ≤ b .e) xs × FirstPast (b .l) xs i
+FillMeans b xs (Err (CoinOutOfRange i)) = ⊥
+FillMeans b xs (Err (SourceSpent i)) = ⊥
+
+-- every list, under any bounds
+abbrev pub FillRefusesTheFirst : Type 0
+FillRefusesTheFirst = (b : Bounds) (xs : List ℤ) → FillMeans b xs (fill-answer b xs)
 
 -- what is there after an answer: the new value if it accepts, the old one if it refuses
 abbrev pub after : {X : Type 0} → Result (Unit {0}) Fault → X → X → X

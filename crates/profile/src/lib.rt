@@ -19,5 +19,6 @@ pub use numbers::NumbersPartialEq;
 pub use place::Place;
 pub use profile::Profile;
 pub use secret::SecretPlace;
+pub use secret::fill_refuses_the_first;
 pub use sizes::front_summing;
 pub use sizes::front_within;

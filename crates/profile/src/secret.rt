@@ -10,7 +10,7 @@ ghost use Rattle.std.specs.declared.option.Option.{Option};
 ghost use Rattle.std.specs.declared.option.Option.the-variants.{Some, None};
 ghost use Rattle.std.specs.Options.{Cases as BySome};
 ghost use Rattle.std.specs.Vec.{made};
-ghost use Rattle.profile.specs.Secrets.{Bounds, LawfulSecret, fill-answer, after, shown, zeros};
+ghost use Rattle.profile.specs.Secrets.{Bounds, LawfulSecret, FillRefusesTheFirst, fill-answer, after, shown, zeros};
 
 // A place is unfilled, with all its memory zero, or holds a lawful secret.
 pub trait SecretPlace {
@@ -45,3 +45,8 @@ pub trait SecretPlace {
         ensures unfilled { λ _. ⌜ held (now (self .exit)) ≡ None ⌝ }
         ensures zeroed { λ _. ⌜ memory (now (self .exit)) ≡ zeros (bounds .n) ⌝ };
 }
+
+// Filling accepts exactly the lawful secrets, and refuses any other list at the first place where it is not one.
+pub fn fill_refuses_the_first()
+    ensures { λ _. ⌜ FillRefusesTheFirst ⌝ }
+{}

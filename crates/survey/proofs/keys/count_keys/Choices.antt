@@ -1,8 +1,5 @@
-use mathlib.Core.Bool.{_&&_}
 use mathlib.Core.Path.{_≡_}
 use Prim.Native.Nat.{_≤_}
-use lib.Dec.{eqb}
-use Rattle.profile.specs.Counts.{count}
 use Rattle.profile.specs.Laws.{key-count}
 use Rattle.survey.proofs.keys.count_keys.Given as given
 
