@@ -13,8 +13,8 @@ one_less a b = ap (λ x. x *ℤ b) (-ℤ_one a) ∙ pred_ℤ-*ℤ a b
 by_units : (P : ℤ → Type 0) → P (pos 0) → ((a : ℤ) → P a → P (a +ℤ pos 1)) → ((a : ℤ) → P a → P (a +ℤ negsuc 0)) → (a : ℤ) → P a
 by_units P none more less = ℤ_ind P none (λ n. more (pos n)) (λ n. less (neg_ℤ (pos n)))
 
-pub times-add-left : (a b c : ℤ) → (a +ℤ b) *ℤ c ≡ a *ℤ c +ℤ b *ℤ c
-times-add-left a b c =
+pub times_add_left : (a b c : ℤ) → (a +ℤ b) *ℤ c ≡ a *ℤ c +ℤ b *ℤ c
+times_add_left a b c =
     by_units (λ x. (x +ℤ b) *ℤ c ≡ x *ℤ c +ℤ b *ℤ c)
     (ap (λ x. x *ℤ c) (+ℤ_idl b) ∙ sym (ap (λ x. x +ℤ b *ℤ c) (zero-*ℤ c) ∙ +ℤ_idl (b *ℤ c)))
     (λ x e.
@@ -30,51 +30,51 @@ times-add-left a b c =
     regroup : (x y z : ℤ) → x +ℤ y +ℤ z ≡ x +ℤ z +ℤ y
     regroup x y z = omega (arith, ints)
 
-pub times-add-right : (a b c : ℤ) → a *ℤ (b +ℤ c) ≡ a *ℤ b +ℤ a *ℤ c
-times-add-right a b c = *ℤ_comm a (b +ℤ c) ∙ times-add-left b c a ∙ (λ i. *ℤ_comm b a i +ℤ *ℤ_comm c a i)
+pub times_add_right : (a b c : ℤ) → a *ℤ (b +ℤ c) ≡ a *ℤ b +ℤ a *ℤ c
+times_add_right a b c = *ℤ_comm a (b +ℤ c) ∙ times_add_left b c a ∙ (λ i. *ℤ_comm b a i +ℤ *ℤ_comm c a i)
 
 opposite : (x y : ℤ) → x +ℤ y ≡ pos 0 → x ≡ neg_ℤ y
 opposite x y e = omega (arith, ints)
 
-pub times-neg-left : (a b : ℤ) → neg_ℤ a *ℤ b ≡ neg_ℤ (a *ℤ b)
-times-neg-left a b =
-    opposite (neg_ℤ a *ℤ b) (a *ℤ b) (sym (times-add-left (neg_ℤ a) a b) ∙ ap (λ x. x *ℤ b) (+ℤ_invl a) ∙ zero-*ℤ b)
+pub times_neg_left : (a b : ℤ) → neg_ℤ a *ℤ b ≡ neg_ℤ (a *ℤ b)
+times_neg_left a b =
+    opposite (neg_ℤ a *ℤ b) (a *ℤ b) (sym (times_add_left (neg_ℤ a) a b) ∙ ap (λ x. x *ℤ b) (+ℤ_invl a) ∙ zero-*ℤ b)
 
-pub times-neg-right : (a b : ℤ) → a *ℤ neg_ℤ b ≡ neg_ℤ (a *ℤ b)
-times-neg-right a b = *ℤ_comm a (neg_ℤ b) ∙ times-neg-left b a ∙ ap neg_ℤ (*ℤ_comm b a)
+pub times_neg_right : (a b : ℤ) → a *ℤ neg_ℤ b ≡ neg_ℤ (a *ℤ b)
+times_neg_right a b = *ℤ_comm a (neg_ℤ b) ∙ times_neg_left b a ∙ ap neg_ℤ (*ℤ_comm b a)
 
-pub times-assoc : (a b c : ℤ) → a *ℤ b *ℤ c ≡ a *ℤ (b *ℤ c)
-times-assoc a b c =
+pub times_assoc : (a b c : ℤ) → a *ℤ b *ℤ c ≡ a *ℤ (b *ℤ c)
+times_assoc a b c =
     by_units (λ x. x *ℤ b *ℤ c ≡ x *ℤ (b *ℤ c))
     (ap (λ x. x *ℤ c) (zero-*ℤ b) ∙ zero-*ℤ c ∙ sym (zero-*ℤ (b *ℤ c)))
     (λ x e.
-    ap (λ y. y *ℤ c) (one_more x b) ∙ times-add-left (x *ℤ b) b c ∙ ap (λ y. y +ℤ b *ℤ c) e ∙ sym (one_more x (b *ℤ c)))
+    ap (λ y. y *ℤ c) (one_more x b) ∙ times_add_left (x *ℤ b) b c ∙ ap (λ y. y +ℤ b *ℤ c) e ∙ sym (one_more x (b *ℤ c)))
     (λ x e.
-    ap (λ y. y *ℤ c) (one_less x b) ∙ times-add-left (x *ℤ b) (neg_ℤ b) c ∙ (λ i. e i +ℤ times-neg-left b c i)
+    ap (λ y. y *ℤ c) (one_less x b) ∙ times_add_left (x *ℤ b) (neg_ℤ b) c ∙ (λ i. e i +ℤ times_neg_left b c i)
     ∙ sym (one_less x (b *ℤ c)))
     a
 
-pub one-times : (a : ℤ) → pos 1 *ℤ a ≡ a
-one-times (pos a) = omega (arith, ints)
-one-times (negsuc a) = omega (arith, ints)
+pub one_times : (a : ℤ) → pos 1 *ℤ a ≡ a
+one_times (pos a) = omega (arith, ints)
+one_times (negsuc a) = omega (arith, ints)
 
 -- the order of two factors is exchanged
-pub times-exchange : (a b c : ℤ) → a *ℤ (b *ℤ c) ≡ b *ℤ (a *ℤ c)
-times-exchange a b c = sym (times-assoc a b c) ∙ ap (λ x. x *ℤ c) (*ℤ_comm a b) ∙ times-assoc b a c
+pub times_exchange : (a b c : ℤ) → a *ℤ (b *ℤ c) ≡ b *ℤ (a *ℤ c)
+times_exchange a b c = sym (times_assoc a b c) ∙ ap (λ x. x *ℤ c) (*ℤ_comm a b) ∙ times_assoc b a c
 
-pub natAbs-times : (a b : ℤ) → nat_abs (a *ℤ b) ≡ nat_abs a * nat_abs b
-natAbs-times (pos a) (pos b) = refl
-natAbs-times (pos a) (negsuc b) = omega (arith, ints)
-natAbs-times (negsuc a) (pos b) = omega (arith, ints)
-natAbs-times (negsuc a) (negsuc b) = refl
+pub natAbs_times : (a b : ℤ) → nat_abs (a *ℤ b) ≡ nat_abs a * nat_abs b
+natAbs_times (pos a) (pos b) = refl
+natAbs_times (pos a) (negsuc b) = omega (arith, ints)
+natAbs_times (negsuc a) (pos b) = omega (arith, ints)
+natAbs_times (negsuc a) (negsuc b) = refl
 
-pub natAbs-add : (a b : ℤ) → nat_abs (a +ℤ b) ≤ nat_abs a + nat_abs b
-natAbs-add (pos a) (pos b) = omega (arith, ints)
-natAbs-add (pos a) (negsuc b) = omega (arith, ints)
-natAbs-add (negsuc a) (pos b) = omega (arith, ints)
-natAbs-add (negsuc a) (negsuc b) = omega (arith, ints)
+pub natAbs_add : (a b : ℤ) → nat_abs (a +ℤ b) ≤ nat_abs a + nat_abs b
+natAbs_add (pos a) (pos b) = omega (arith, ints)
+natAbs_add (pos a) (negsuc b) = omega (arith, ints)
+natAbs_add (negsuc a) (pos b) = omega (arith, ints)
+natAbs_add (negsuc a) (negsuc b) = omega (arith, ints)
 
-pub natAbs-neg : (a : ℤ) → nat_abs (neg_ℤ a) ≡ nat_abs a
-natAbs-neg (pos zero) = refl
-natAbs-neg (pos (suc a)) = refl
-natAbs-neg (negsuc a) = refl
+pub natAbs_neg : (a : ℤ) → nat_abs (neg_ℤ a) ≡ nat_abs a
+natAbs_neg (pos zero) = refl
+natAbs_neg (pos (suc a)) = refl
+natAbs_neg (negsuc a) = refl

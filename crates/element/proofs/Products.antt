@@ -3,58 +3,58 @@ use Rattle.std.proofs.Common.{◌≡◌, ℕ, suc, ◌+◌, ◌-◌, ◌<◌, �
 use lib.IntN.{*ℤ_comm, neg_ℤ-+ℤ, neg_ℤ-neg_ℤ, zero-*ℤ}
 use Rattle.std.proofs.lemmas.Bool.{cond-true, cond-false, le-leb, lt-leb, cases_lt}
 use Rattle.element.specs.Products.{sum_to, shifted, coefficient}
-use Rattle.element.proofs.FiniteSums.{sum-to-same, sum-to-add, sum-to-times, sum-to-neg, sum-to-exchange, sum-to-split, sum-to-reversed, sum-to-alone}
-use Rattle.element.proofs.Integers.{one-times, times-add-left, times-add-right, times-neg-right, times-assoc, times-exchange}
-use Rattle.element.proofs.Shapes.{coefficient-is}
+use Rattle.element.proofs.FiniteSums.{sum_to_same, sum_to_add, sum_to_times, sum_to_neg, sum_to_exchange, sum_to_split, sum_to_reversed, sum_to_alone}
+use Rattle.element.proofs.Integers.{one_times, times_add_left, times_add_right, times_neg_right, times_assoc, times_exchange}
+use Rattle.element.proofs.Shapes.{coefficient_is}
 
-pub shifted-low : (n : ℕ) (v : ℕ → ℤ) (k i : ℕ) → i ≤ k → shifted n v k i ≡ v (k - i)
-shifted-low n v k i h = cond-true (leb i k) (v (k - i)) (neg_ℤ (v (k + n - i))) (le-leb i k h)
+pub shifted_low : (n : ℕ) (v : ℕ → ℤ) (k i : ℕ) → i ≤ k → shifted n v k i ≡ v (k - i)
+shifted_low n v k i h = cond-true (leb i k) (v (k - i)) (neg_ℤ (v (k + n - i))) (le-leb i k h)
 
-pub shifted-high : (n : ℕ) (v : ℕ → ℤ) (k i : ℕ) → k < i → shifted n v k i ≡ neg_ℤ (v (k + n - i))
-shifted-high n v k i h = cond-false (leb i k) (v (k - i)) (neg_ℤ (v (k + n - i))) (lt-leb i k h)
+pub shifted_high : (n : ℕ) (v : ℕ → ℤ) (k i : ℕ) → k < i → shifted n v k i ≡ neg_ℤ (v (k + n - i))
+shifted_high n v k i h = cond-false (leb i k) (v (k - i)) (neg_ℤ (v (k + n - i))) (lt-leb i k h)
 
 -- a relation that negation keeps carries over from the coefficients to what u_i is multiplied by
-pub shifted-related : (R : ℤ → ℤ → Type 0) (n : ℕ) (v w : ℕ → ℤ) (k i : ℕ) → ((x y : ℤ) → R x y → R (neg_ℤ x) (neg_ℤ y)) → k < n → i < n → ((m : ℕ) → m < n → R (v m) (w m)) → R (shifted n v k i) (shifted n w k i)
-shifted-related R n v w k i negated k< i< related =
+pub shifted_related : (R : ℤ → ℤ → Type 0) (n : ℕ) (v w : ℕ → ℤ) (k i : ℕ) → ((x y : ℤ) → R x y → R (neg_ℤ x) (neg_ℤ y)) → k < n → i < n → ((m : ℕ) → m < n → R (v m) (w m)) → R (shifted n v k i) (shifted n w k i)
+shifted_related R n v w k i negated k< i< related =
     ⊎_elim
     (λ high.
-    subst₂ R (sym (shifted-high n v k i high)) (sym (shifted-high n w k i high))
+    subst₂ R (sym (shifted_high n v k i high)) (sym (shifted_high n w k i high))
     (negated (v (k + n - i)) (w (k + n - i)) (related (k + n - i) (omega arith))))
-    (λ low. subst₂ R (sym (shifted-low n v k i low)) (sym (shifted-low n w k i low)) (related (k - i) (omega arith)))
+    (λ low. subst₂ R (sym (shifted_low n v k i low)) (sym (shifted_low n w k i low)) (related (k - i) (omega arith)))
     (cases_lt k i)
 
-pub shifted-same : (n : ℕ) (v w : ℕ → ℤ) (k i : ℕ) → k < n → i < n → ((m : ℕ) → m < n → v m ≡ w m) → shifted n v k i ≡ shifted n w k i
-shifted-same n v w k i k< i< same = shifted-related (λ x y. x ≡ y) n v w k i (λ x y e. ap neg_ℤ e) k< i< same
+pub shifted_same : (n : ℕ) (v w : ℕ → ℤ) (k i : ℕ) → k < n → i < n → ((m : ℕ) → m < n → v m ≡ w m) → shifted n v k i ≡ shifted n w k i
+shifted_same n v w k i k< i< same = shifted_related (λ x y. x ≡ y) n v w k i (λ x y e. ap neg_ℤ e) k< i< same
 
-pub shifted-add : (n : ℕ) (v w : ℕ → ℤ) (k i : ℕ) → shifted n (λ m. v m +ℤ w m) k i ≡ shifted n v k i +ℤ shifted n w k i
-shifted-add n v w k i = either (leb i k) (v (k - i)) (w (k - i)) (v (k + n - i)) (w (k + n - i))
+pub shifted_add : (n : ℕ) (v w : ℕ → ℤ) (k i : ℕ) → shifted n (λ m. v m +ℤ w m) k i ≡ shifted n v k i +ℤ shifted n w k i
+shifted_add n v w k i = either (leb i k) (v (k - i)) (w (k - i)) (v (k + n - i)) (w (k + n - i))
   where
     either : (t : Bool) (a b c d : ℤ) → cond t (a +ℤ b) (neg_ℤ (c +ℤ d)) ≡ cond t a (neg_ℤ c) +ℤ cond t b (neg_ℤ d)
     either true a b c d = refl
     either false a b c d = neg_ℤ-+ℤ c d
 
-pub shifted-times : (n : ℕ) (c : ℤ) (v : ℕ → ℤ) (k i : ℕ) → shifted n (λ m. c *ℤ v m) k i ≡ c *ℤ shifted n v k i
-shifted-times n c v k i = either (leb i k) (v (k - i)) (v (k + n - i))
+pub shifted_times : (n : ℕ) (c : ℤ) (v : ℕ → ℤ) (k i : ℕ) → shifted n (λ m. c *ℤ v m) k i ≡ c *ℤ shifted n v k i
+shifted_times n c v k i = either (leb i k) (v (k - i)) (v (k + n - i))
   where
     either : (t : Bool) (a b : ℤ) → cond t (c *ℤ a) (neg_ℤ (c *ℤ b)) ≡ c *ℤ cond t a (neg_ℤ b)
     either true a b = refl
-    either false a b = sym (times-neg-right c b)
+    either false a b = sym (times_neg_right c b)
 
 pub shifted_sum : (n l : ℕ) (f : ℕ → ℕ → ℤ) (k i : ℕ) → shifted n (λ m. sum_to l (λ j. f j m)) k i ≡ sum_to l (λ j. shifted n (f j) k i)
 shifted_sum n l f k i = either (leb i k) (k - i) (k + n - i)
   where
     either : (t : Bool) (a b : ℕ) → cond t (sum_to l (λ j. f j a)) (neg_ℤ (sum_to l (λ j. f j b))) ≡ sum_to l (λ j. cond t (f j a) (neg_ℤ (f j b)))
     either true a b = refl
-    either false a b = sym (sum-to-neg l (λ j. f j b))
+    either false a b = sym (sum_to_neg l (λ j. f j b))
 
 -- v_j with i + j = k, or with k + n or k + 2 n for k, with the sign of as many wraps
 turned : ℕ → (ℕ → ℤ) → ℕ → ℕ → ℤ
 turned n v k s = cond (leb s k) (v (k - s)) (cond (leb s (k + n)) (neg_ℤ (v (k + n - s))) (v (k + n + n - s)))
 
 -- to shift by i and then by j is to go i + j back
-shifted-twice : (n : ℕ) (v : ℕ → ℤ) (k i j : ℕ) → k < n → i < n → j < n → shifted n (λ m. shifted n v m i) k j ≡ turned n v k (i + j)
+shifted_twice : (n : ℕ) (v : ℕ → ℤ) (k i j : ℕ) → k < n → i < n → j < n → shifted n (λ m. shifted n v m i) k j ≡ turned n v k (i + j)
 unfolding turned
-shifted-twice n v k i j k< i< j< =
+shifted_twice n v k i j k< i< j< =
     let after = λ (m : ℕ). shifted n v m i in
     let s = i + j in
     let second = cond (leb s (k + n)) (neg_ℤ (v (k + n - s))) (v (k + n + n - s)) in
@@ -63,102 +63,102 @@ shifted-twice n v k i j k< i< j< =
     let beyond : turned n v k s ≡ second = cond-false (leb s k) (v (k - s)) second (lt-leb s k (omega arith)) in
     ⊎_elim
     (λ i-high.
-    shifted-high n after k j j-high ∙ ap neg_ℤ (shifted-high n v (k + n - j) i i-high)
+    shifted_high n after k j j-high ∙ ap neg_ℤ (shifted_high n v (k + n - j) i i-high)
     ∙ neg_ℤ-neg_ℤ (v (k + n - j + n - i)) ∙ ap v (omega arith)
     ∙ sym (beyond ∙ cond-false (leb s (k + n)) (neg_ℤ (v (k + n - s))) (v (k + n + n - s)) (lt-leb s (k + n) (omega arith))))
     (λ i-low.
-    shifted-high n after k j j-high ∙ ap neg_ℤ (shifted-low n v (k + n - j) i i-low) ∙ ap (λ m. neg_ℤ (v m)) (omega arith)
+    shifted_high n after k j j-high ∙ ap neg_ℤ (shifted_low n v (k + n - j) i i-low) ∙ ap (λ m. neg_ℤ (v m)) (omega arith)
     ∙ sym (beyond ∙ cond-true (leb s (k + n)) (neg_ℤ (v (k + n - s))) (v (k + n + n - s)) (le-leb s (k + n) (omega arith))))
     (cases_lt (k + n - j) i))
     (λ j-low.
     ⊎_elim
     (λ i-high.
     let beyond : turned n v k s ≡ second = cond-false (leb s k) (v (k - s)) second (lt-leb s k (omega arith)) in
-    shifted-low n after k j j-low ∙ shifted-high n v (k - j) i i-high ∙ ap (λ m. neg_ℤ (v m)) (omega arith)
+    shifted_low n after k j j-low ∙ shifted_high n v (k - j) i i-high ∙ ap (λ m. neg_ℤ (v m)) (omega arith)
     ∙ sym (beyond ∙ cond-true (leb s (k + n)) (neg_ℤ (v (k + n - s))) (v (k + n + n - s)) (le-leb s (k + n) (omega arith))))
     (λ i-low.
-    shifted-low n after k j j-low ∙ shifted-low n v (k - j) i i-low ∙ ap v (omega arith)
+    shifted_low n after k j j-low ∙ shifted_low n v (k - j) i i-low ∙ ap v (omega arith)
     ∙ sym (cond-true (leb s k) (v (k - s)) second (le-leb s k (omega arith))))
     (cases_lt (k - j) i))
     (cases_lt k j)
 
-pub shifted-exchange : (n : ℕ) (v : ℕ → ℤ) (k i j : ℕ) → k < n → i < n → j < n → shifted n (λ m. shifted n v m i) k j ≡ shifted n (λ m. shifted n v m j) k i
-shifted-exchange n v k i j k< i< j< =
-    shifted-twice n v k i j k< i< j< ∙ ap (turned n v k) (add_comm i j) ∙ sym (shifted-twice n v k j i k< j< i<)
+pub shifted_exchange : (n : ℕ) (v : ℕ → ℤ) (k i j : ℕ) → k < n → i < n → j < n → shifted n (λ m. shifted n v m i) k j ≡ shifted n (λ m. shifted n v m j) k i
+shifted_exchange n v k i j k< i< j< =
+    shifted_twice n v k i j k< i< j< ∙ ap (turned n v k) (add_comm i j) ∙ sym (shifted_twice n v k j i k< j< i<)
 
-pub coefficient-same : (n : ℕ) (u w v x : ℕ → ℤ) (k : ℕ) → k < n → ((i : ℕ) → i < n → u i ≡ w i) → ((i : ℕ) → i < n → v i ≡ x i) → coefficient n u v k ≡ coefficient n w x k
+pub coefficient_same : (n : ℕ) (u w v x : ℕ → ℤ) (k : ℕ) → k < n → ((i : ℕ) → i < n → u i ≡ w i) → ((i : ℕ) → i < n → v i ≡ x i) → coefficient n u v k ≡ coefficient n w x k
 unfolding coefficient
-coefficient-same n u w v x k k< left right =
-    sum-to-same n (λ i. u i *ℤ shifted n v k i) (λ i. w i *ℤ shifted n x k i)
-    (λ i h t. left i h t *ℤ shifted-same n v x k i k< h right t)
+coefficient_same n u w v x k k< left right =
+    sum_to_same n (λ i. u i *ℤ shifted n v k i) (λ i. w i *ℤ shifted n x k i)
+    (λ i h t. left i h t *ℤ shifted_same n v x k i k< h right t)
 
-pub coefficient-add-left : (n : ℕ) (u w v : ℕ → ℤ) (k : ℕ) → coefficient n (λ i. u i +ℤ w i) v k ≡ coefficient n u v k +ℤ coefficient n w v k
+pub coefficient_add_left : (n : ℕ) (u w v : ℕ → ℤ) (k : ℕ) → coefficient n (λ i. u i +ℤ w i) v k ≡ coefficient n u v k +ℤ coefficient n w v k
 unfolding coefficient
-coefficient-add-left n u w v k =
-    sum-to-same n (λ i. (u i +ℤ w i) *ℤ shifted n v k i) (λ i. u i *ℤ shifted n v k i +ℤ w i *ℤ shifted n v k i)
-    (λ i h. times-add-left (u i) (w i) (shifted n v k i))
-    ∙ sum-to-add n (λ i. u i *ℤ shifted n v k i) (λ i. w i *ℤ shifted n v k i)
+coefficient_add_left n u w v k =
+    sum_to_same n (λ i. (u i +ℤ w i) *ℤ shifted n v k i) (λ i. u i *ℤ shifted n v k i +ℤ w i *ℤ shifted n v k i)
+    (λ i h. times_add_left (u i) (w i) (shifted n v k i))
+    ∙ sum_to_add n (λ i. u i *ℤ shifted n v k i) (λ i. w i *ℤ shifted n v k i)
 
-pub coefficient-add-right : (n : ℕ) (u v w : ℕ → ℤ) (k : ℕ) → coefficient n u (λ i. v i +ℤ w i) k ≡ coefficient n u v k +ℤ coefficient n u w k
+pub coefficient_add_right : (n : ℕ) (u v w : ℕ → ℤ) (k : ℕ) → coefficient n u (λ i. v i +ℤ w i) k ≡ coefficient n u v k +ℤ coefficient n u w k
 unfolding coefficient
-coefficient-add-right n u v w k =
-    sum-to-same n (λ i. u i *ℤ shifted n (λ m. v m +ℤ w m) k i) (λ i. u i *ℤ shifted n v k i +ℤ u i *ℤ shifted n w k i)
-    (λ i h. ap (λ x. u i *ℤ x) (shifted-add n v w k i) ∙ times-add-right (u i) (shifted n v k i) (shifted n w k i))
-    ∙ sum-to-add n (λ i. u i *ℤ shifted n v k i) (λ i. u i *ℤ shifted n w k i)
+coefficient_add_right n u v w k =
+    sum_to_same n (λ i. u i *ℤ shifted n (λ m. v m +ℤ w m) k i) (λ i. u i *ℤ shifted n v k i +ℤ u i *ℤ shifted n w k i)
+    (λ i h. ap (λ x. u i *ℤ x) (shifted_add n v w k i) ∙ times_add_right (u i) (shifted n v k i) (shifted n w k i))
+    ∙ sum_to_add n (λ i. u i *ℤ shifted n v k i) (λ i. u i *ℤ shifted n w k i)
 
-pub coefficient-times-left : (n : ℕ) (c : ℤ) (u v : ℕ → ℤ) (k : ℕ) → coefficient n (λ i. c *ℤ u i) v k ≡ c *ℤ coefficient n u v k
+pub coefficient_times_left : (n : ℕ) (c : ℤ) (u v : ℕ → ℤ) (k : ℕ) → coefficient n (λ i. c *ℤ u i) v k ≡ c *ℤ coefficient n u v k
 unfolding coefficient
-coefficient-times-left n c u v k =
-    sum-to-same n (λ i. c *ℤ u i *ℤ shifted n v k i) (λ i. c *ℤ (u i *ℤ shifted n v k i))
-    (λ i h. times-assoc c (u i) (shifted n v k i))
-    ∙ sum-to-times n c (λ i. u i *ℤ shifted n v k i)
+coefficient_times_left n c u v k =
+    sum_to_same n (λ i. c *ℤ u i *ℤ shifted n v k i) (λ i. c *ℤ (u i *ℤ shifted n v k i))
+    (λ i h. times_assoc c (u i) (shifted n v k i))
+    ∙ sum_to_times n c (λ i. u i *ℤ shifted n v k i)
 
-pub coefficient-times-right : (n : ℕ) (c : ℤ) (u v : ℕ → ℤ) (k : ℕ) → coefficient n u (λ i. c *ℤ v i) k ≡ c *ℤ coefficient n u v k
+pub coefficient_times_right : (n : ℕ) (c : ℤ) (u v : ℕ → ℤ) (k : ℕ) → coefficient n u (λ i. c *ℤ v i) k ≡ c *ℤ coefficient n u v k
 unfolding coefficient
-coefficient-times-right n c u v k =
-    sum-to-same n (λ i. u i *ℤ shifted n (λ m. c *ℤ v m) k i) (λ i. c *ℤ (u i *ℤ shifted n v k i))
-    (λ i h. ap (λ x. u i *ℤ x) (shifted-times n c v k i) ∙ times-exchange (u i) c (shifted n v k i))
-    ∙ sum-to-times n c (λ i. u i *ℤ shifted n v k i)
+coefficient_times_right n c u v k =
+    sum_to_same n (λ i. u i *ℤ shifted n (λ m. c *ℤ v m) k i) (λ i. c *ℤ (u i *ℤ shifted n v k i))
+    (λ i h. ap (λ x. u i *ℤ x) (shifted_times n c v k i) ∙ times_exchange (u i) c (shifted n v k i))
+    ∙ sum_to_times n c (λ i. u i *ℤ shifted n v k i)
 
 -- to multiply by x^j is to shift by j
-pub coefficient-monomial : (n j : ℕ) (u v : ℕ → ℤ) (k : ℕ) → j < n → u j ≡ pos 1 → ((i : ℕ) → (i ≡ j → ⊥) → u i ≡ pos 0) → coefficient n u v k ≡ shifted n v k j
+pub coefficient_monomial : (n j : ℕ) (u v : ℕ → ℤ) (k : ℕ) → j < n → u j ≡ pos 1 → ((i : ℕ) → (i ≡ j → ⊥) → u i ≡ pos 0) → coefficient n u v k ≡ shifted n v k j
 unfolding coefficient
-coefficient-monomial n j u v k j< one others =
-    sum-to-alone n j (λ i. u i *ℤ shifted n v k i) j<
+coefficient_monomial n j u v k j< one others =
+    sum_to_alone n j (λ i. u i *ℤ shifted n v k i) j<
     (λ i h apart. ap (λ x. x *ℤ shifted n v k i) (others i apart) ∙ zero-*ℤ (shifted n v k i))
-    ∙ ap (λ x. x *ℤ shifted n v k j) one ∙ one-times (shifted n v k j)
+    ∙ ap (λ x. x *ℤ shifted n v k j) one ∙ one_times (shifted n v k j)
 
 -- the summands with i + j = k, and those with i + j = k + n
-coefficient-parts : (n : ℕ) (u v : ℕ → ℤ) (k : ℕ) → k < n → coefficient n u v k ≡ sum_to (suc k) (λ i. u i *ℤ v (k - i)) +ℤ sum_to (n - suc k) (λ i. neg_ℤ (u (suc k + i) *ℤ v (n - suc i)))
+coefficient_parts : (n : ℕ) (u v : ℕ → ℤ) (k : ℕ) → k < n → coefficient n u v k ≡ sum_to (suc k) (λ i. u i *ℤ v (k - i)) +ℤ sum_to (n - suc k) (λ i. neg_ℤ (u (suc k + i) *ℤ v (n - suc i)))
 unfolding coefficient
-coefficient-parts n u v k k< =
+coefficient_parts n u v k k< =
     let f = λ (i : ℕ). u i *ℤ shifted n v k i in
     let l = n - suc k in
-    ap (λ m. sum_to m f) (omega arith) ∙ sum-to-split (suc k) l f
+    ap (λ m. sum_to m f) (omega arith) ∙ sum_to_split (suc k) l f
     ∙ (λ t.
-    sum-to-same (suc k) f (λ i. u i *ℤ v (k - i)) (λ i h. ap (λ x. u i *ℤ x) (shifted-low n v k i (omega arith))) t
-    +ℤ sum-to-same l (λ i. f (suc k + i)) (λ i. neg_ℤ (u (suc k + i) *ℤ v (n - suc i)))
+    sum_to_same (suc k) f (λ i. u i *ℤ v (k - i)) (λ i h. ap (λ x. u i *ℤ x) (shifted_low n v k i (omega arith))) t
+    +ℤ sum_to_same l (λ i. f (suc k + i)) (λ i. neg_ℤ (u (suc k + i) *ℤ v (n - suc i)))
     (λ i h.
-    ap (λ x. u (suc k + i) *ℤ x) (shifted-high n v k (suc k + i) (omega arith) ∙ ap (λ m. neg_ℤ (v m)) (omega arith))
-    ∙ times-neg-right (u (suc k + i)) (v (n - suc i))) t)
+    ap (λ x. u (suc k + i) *ℤ x) (shifted_high n v k (suc k + i) (omega arith) ∙ ap (λ m. neg_ℤ (v m)) (omega arith))
+    ∙ times_neg_right (u (suc k + i)) (v (n - suc i))) t)
 
-pub coefficient-comm : (n : ℕ) (u v : ℕ → ℤ) (k : ℕ) → k < n → coefficient n u v k ≡ coefficient n v u k
-coefficient-comm n u v k k< =
+pub coefficient_comm : (n : ℕ) (u v : ℕ → ℤ) (k : ℕ) → k < n → coefficient n u v k ≡ coefficient n v u k
+coefficient_comm n u v k k< =
     let l = n - suc k in
     let low = λ (a b : ℕ → ℤ) (i : ℕ). a i *ℤ b (k - i) in
     let high = λ (a b : ℕ → ℤ) (i : ℕ). neg_ℤ (a (suc k + i) *ℤ b (n - suc i)) in
-    coefficient-parts n u v k k<
+    coefficient_parts n u v k k<
     ∙ (λ t.
-    (sum-to-same (suc k) (low u v) (λ i. low v u (suc k - suc i))
-    (λ i h. *ℤ_comm (u i) (v (k - i)) ∙ (λ s. v (k-from i h s) *ℤ u (back i h s)))
-    ∙ sum-to-reversed (suc k) (low v u)) t
-    +ℤ (sum-to-same l (high u v) (λ i. high v u (l - suc i))
+    (sum_to_same (suc k) (low u v) (λ i. low v u (suc k - suc i))
+    (λ i h. *ℤ_comm (u i) (v (k - i)) ∙ (λ s. v (k_from i h s) *ℤ u (back i h s)))
+    ∙ sum_to_reversed (suc k) (low v u)) t
+    +ℤ (sum_to_same l (high u v) (λ i. high v u (l - suc i))
     (λ i h. ap neg_ℤ (*ℤ_comm (u (suc k + i)) (v (n - suc i)) ∙ (λ s. v (far i h s) *ℤ u (near i h s))))
-    ∙ sum-to-reversed l (high v u)) t)
-    ∙ sym (coefficient-parts n v u k k<)
+    ∙ sum_to_reversed l (high v u)) t)
+    ∙ sym (coefficient_parts n v u k k<)
   where
-    k-from : (i : ℕ) → i < suc k → k - i ≡ suc k - suc i
-    k-from i h = omega arith
+    k_from : (i : ℕ) → i < suc k → k - i ≡ suc k - suc i
+    k_from i h = omega arith
 
     back : (i : ℕ) → i < suc k → i ≡ k - (suc k - suc i)
     back i h = omega arith
@@ -170,27 +170,27 @@ coefficient-comm n u v k k< =
     near i h = omega arith
 
 -- the product of a, s and t as a sum over the coefficients of s and of t
-coefficient-twice : (n : ℕ) (a s t : ℕ → ℤ) (k : ℕ) → k < n → coefficient n (coefficient n a s) t k ≡ sum_to n (λ j. sum_to n (λ i. t j *ℤ (s i *ℤ shifted n (λ m. shifted n a m i) k j)))
-coefficient-twice n a s t k k< =
-    coefficient-comm n (coefficient n a s) t k k< ∙ coefficient-is n t (coefficient n a s) k
-    ∙ sum-to-same n (λ j. t j *ℤ shifted n (coefficient n a s) k j) (λ j. sum_to n (λ i. t j *ℤ (s i *ℤ shifted n (λ m. shifted n a m i) k j)))
-    (λ j h. ap (λ x. t j *ℤ x) (inner j h) ∙ sym (sum-to-times n (t j) (λ i. s i *ℤ shifted n (λ m. shifted n a m i) k j)))
+coefficient_twice : (n : ℕ) (a s t : ℕ → ℤ) (k : ℕ) → k < n → coefficient n (coefficient n a s) t k ≡ sum_to n (λ j. sum_to n (λ i. t j *ℤ (s i *ℤ shifted n (λ m. shifted n a m i) k j)))
+coefficient_twice n a s t k k< =
+    coefficient_comm n (coefficient n a s) t k k< ∙ coefficient_is n t (coefficient n a s) k
+    ∙ sum_to_same n (λ j. t j *ℤ shifted n (coefficient n a s) k j) (λ j. sum_to n (λ i. t j *ℤ (s i *ℤ shifted n (λ m. shifted n a m i) k j)))
+    (λ j h. ap (λ x. t j *ℤ x) (inner j h) ∙ sym (sum_to_times n (t j) (λ i. s i *ℤ shifted n (λ m. shifted n a m i) k j)))
   where
     inner : (j : ℕ) → j < n → shifted n (coefficient n a s) k j ≡ sum_to n (λ i. s i *ℤ shifted n (λ m. shifted n a m i) k j)
     inner j h =
-        shifted-same n (coefficient n a s) (λ m. sum_to n (λ i. s i *ℤ shifted n a m i)) k j k< h
-        (λ m l. coefficient-comm n a s m l ∙ coefficient-is n s a m)
+        shifted_same n (coefficient n a s) (λ m. sum_to n (λ i. s i *ℤ shifted n a m i)) k j k< h
+        (λ m l. coefficient_comm n a s m l ∙ coefficient_is n s a m)
         ∙ shifted_sum n n (λ i m. s i *ℤ shifted n a m i) k j
-        ∙ sum-to-same n (λ i. shifted n (λ m. s i *ℤ shifted n a m i) k j) (λ i. s i *ℤ shifted n (λ m. shifted n a m i) k j)
-        (λ i l. shifted-times n (s i) (λ m. shifted n a m i) k j)
+        ∙ sum_to_same n (λ i. shifted n (λ m. s i *ℤ shifted n a m i) k j) (λ i. s i *ℤ shifted n (λ m. shifted n a m i) k j)
+        (λ i l. shifted_times n (s i) (λ m. shifted n a m i) k j)
 
 -- two factors are multiplied in either order
-pub coefficient-exchange : (n : ℕ) (a s t : ℕ → ℤ) (k : ℕ) → k < n → coefficient n (coefficient n a s) t k ≡ coefficient n (coefficient n a t) s k
-coefficient-exchange n a s t k k< =
+pub coefficient_exchange : (n : ℕ) (a s t : ℕ → ℤ) (k : ℕ) → k < n → coefficient n (coefficient n a s) t k ≡ coefficient n (coefficient n a t) s k
+coefficient_exchange n a s t k k< =
     let summand = λ (x y : ℕ → ℤ) (j i : ℕ). y j *ℤ (x i *ℤ shifted n (λ m. shifted n a m i) k j) in
-    coefficient-twice n a s t k k< ∙ sum-to-exchange n n (summand s t)
-    ∙ sum-to-same n (λ i. sum_to n (λ j. summand s t j i)) (λ i. sum_to n (summand t s i))
-    (λ i i<. sum-to-same n (λ j. summand s t j i) (summand t s i)
-    (λ j j<. times-exchange (t j) (s i) (shifted n (λ m. shifted n a m i) k j)
-    ∙ ap (λ x. s i *ℤ (t j *ℤ x)) (shifted-exchange n a k i j k< i< j<)))
-    ∙ sym (coefficient-twice n a t s k k<)
+    coefficient_twice n a s t k k< ∙ sum_to_exchange n n (summand s t)
+    ∙ sum_to_same n (λ i. sum_to n (λ j. summand s t j i)) (λ i. sum_to n (summand t s i))
+    (λ i i<. sum_to_same n (λ j. summand s t j i) (summand t s i)
+    (λ j j<. times_exchange (t j) (s i) (shifted n (λ m. shifted n a m i) k j)
+    ∙ ap (λ x. s i *ℤ (t j *ℤ x)) (shifted_exchange n a k i j k< i< j<)))
+    ∙ sym (coefficient_twice n a t s k k<)

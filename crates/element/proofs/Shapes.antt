@@ -5,41 +5,41 @@ use Rattle.std.proofs.lemmas.List.{length-map, get_or-map}
 use Rattle.std.proofs.lemmas.List.FromFn.{length-map-range_with_len, get_or-map-range_with_len}
 use Rattle.std.proofs.ByRecursion.{All-from_get_or}
 use Rattle.ring.specs.Residues.{residue}
-use Rattle.ring.proofs.Residues.{residue-below}
-use Rattle.element.specs.Products.{sum_to, at, shifted, coefficient, integer-product, product}
+use Rattle.ring.proofs.Residues.{residue_below}
+use Rattle.element.specs.Products.{sum_to, at, shifted, coefficient, integer_product, product}
 
-pub coefficient-is : (n : ℕ) (u v : ℕ → ℤ) (k : ℕ) → coefficient n u v k ≡ sum_to n (λ i. u i *ℤ shifted n v k i)
+pub coefficient_is : (n : ℕ) (u v : ℕ → ℤ) (k : ℕ) → coefficient n u v k ≡ sum_to n (λ i. u i *ℤ shifted n v k i)
 unfolding coefficient
-coefficient-is n u v k = refl
+coefficient_is n u v k = refl
 
-pub length-integer-product : (n : ℕ) (u v : List ℤ) → length (integer-product n u v) ≡ n
-unfolding integer-product
-length-integer-product n u v = length-map-range_with_len (coefficient n (at u) (at v)) 0 n
+pub length_integer_product : (n : ℕ) (u v : List ℤ) → length (integer_product n u v) ≡ n
+unfolding integer_product
+length_integer_product n u v = length-map-range_with_len (coefficient n (at u) (at v)) 0 n
 
-pub at-integer-product : (n : ℕ) (u v : List ℤ) (k : ℕ) → k < n → at (integer-product n u v) k ≡ coefficient n (at u) (at v) k
-unfolding integer-product
-at-integer-product n u v k h = get_or-map-range_with_len (coefficient n (at u) (at v)) 0 n k k (pos 0) h (omega arith)
+pub at_integer_product : (n : ℕ) (u v : List ℤ) (k : ℕ) → k < n → at (integer_product n u v) k ≡ coefficient n (at u) (at v) k
+unfolding integer_product
+at_integer_product n u v k h = get_or-map-range_with_len (coefficient n (at u) (at v)) 0 n k k (pos 0) h (omega arith)
 
-pub product-is-residues : (n q : ℕ) (a b : List ℕ) → product n q a b ≡ map (residue q) (integer-product n (map pos a) (map pos b))
+pub product_is_residues : (n q : ℕ) (a b : List ℕ) → product n q a b ≡ map (residue q) (integer_product n (map pos a) (map pos b))
 unfolding product
-product-is-residues n q a b = refl
+product_is_residues n q a b = refl
 
-pub length-product : (n q : ℕ) (a b : List ℕ) → length (product n q a b) ≡ n
+pub length_product : (n q : ℕ) (a b : List ℕ) → length (product n q a b) ≡ n
 unfolding product
-length-product n q a b = length-map (integer-product n (map pos a) (map pos b)) (residue q) ∙ length-integer-product n (map pos a) (map pos b)
+length_product n q a b = length-map (integer_product n (map pos a) (map pos b)) (residue q) ∙ length_integer_product n (map pos a) (map pos b)
 
-pub getD-product : (n q : ℕ) (a b : List ℕ) (k d : ℕ) → k < n → get_or (product n q a b) k d ≡ residue q (coefficient n (at (map pos a)) (at (map pos b)) k)
+pub getD_product : (n q : ℕ) (a b : List ℕ) (k d : ℕ) → k < n → get_or (product n q a b) k d ≡ residue q (coefficient n (at (map pos a)) (at (map pos b)) k)
 unfolding product
-getD-product n q a b k d h =
+getD_product n q a b k d h =
     let u = map pos a in
     let v = map pos b in
-    get_or-map (residue q) (integer-product n u v) k (pos 0) d (subst (λ l. k < l) (sym (length-integer-product n u v)) h)
-    ∙ ap (residue q) (at-integer-product n u v k h)
+    get_or-map (residue q) (integer_product n u v) k (pos 0) d (subst (λ l. k < l) (sym (length_integer_product n u v)) h)
+    ∙ ap (residue q) (at_integer_product n u v k h)
 
 -- each number of a product is below q
-pub product-below : (n q : ℕ) (a b : List ℕ) → 0 < q → All (λ x. x < q) (product n q a b)
-product-below n q a b some =
+pub product_below : (n q : ℕ) (a b : List ℕ) → 0 < q → All (λ x. x < q) (product n q a b)
+product_below n q a b some =
     All-from_get_or (λ x. x < q) (product n q a b) 0
     (λ k h.
-    subst (λ x. x < q) (sym (getD-product n q a b k 0 (subst (λ l. k < l) (length-product n q a b) h)))
-    (residue-below q (coefficient n (at (map pos a)) (at (map pos b)) k) some))
+    subst (λ x. x < q) (sym (getD_product n q a b k 0 (subst (λ l. k < l) (length_product n q a b) h)))
+    (residue_below q (coefficient n (at (map pos a)) (at (map pos b)) k) some))

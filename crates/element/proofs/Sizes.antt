@@ -4,14 +4,14 @@ use Rattle.std.proofs.lemmas.List.{take_all, get_or_past}
 use Rattle.std.proofs.lemmas.List.Sums.{sum_by_more, sum_by-take-le}
 use Rattle.std.proofs.lemmas.Bool.{cases_lt}
 use Rattle.element.specs.Products.{sum_to, at, shifted, coefficient}
-use Rattle.element.proofs.FiniteSums.{sum-to-none, sum-to-suc}
-use Rattle.element.proofs.Integers.{natAbs-times, natAbs-add, natAbs-neg}
-use Rattle.element.proofs.Products.{shifted-related, coefficient-comm}
-use Rattle.element.proofs.Shapes.{coefficient-is}
+use Rattle.element.proofs.FiniteSums.{sum_to_none, sum_to_suc}
+use Rattle.element.proofs.Integers.{natAbs_times, natAbs_add, natAbs_neg}
+use Rattle.element.proofs.Products.{shifted_related, coefficient_comm}
+use Rattle.element.proofs.Shapes.{coefficient_is}
 
 -- one more size in a sum of sizes, where nothing is counted past the end
-sizes-suc : (v : List ℤ) (i : ℕ) → sum_by nat_abs (take (suc i) v) ≡ sum_by nat_abs (take i v) + nat_abs (at v i)
-sizes-suc v i =
+sizes_suc : (v : List ℤ) (i : ℕ) → sum_by nat_abs (take (suc i) v) ≡ sum_by nat_abs (take i v) + nat_abs (at v i)
+sizes_suc v i =
     ⊎_elim
     (λ inside. ap (λ j. sum_by nat_abs (take j v)) (sym (add-one i)) ∙ sum_by_more nat_abs v i (pos 0) inside)
     (λ past.
@@ -21,22 +21,22 @@ sizes-suc v i =
     (cases_lt i (length v))
 
 -- the size of a sum of products is at most m times the sum of the sizes of v, where no w_j is larger than m
-pub size-of-sum : (m : ℕ) (v : List ℤ) (w : ℕ → ℤ) (i : ℕ) → ((j : ℕ) → j < i → nat_abs (w j) ≤ m) → nat_abs (sum_to i (λ j. at v j *ℤ w j)) ≤ m * sum_by nat_abs (take i v)
-size-of-sum m v w zero small = subst (λ x. nat_abs x ≤ m * 0) (sym (sum-to-none (λ j. at v j *ℤ w j))) (omega arith)
-size-of-sum m v w (suc i) small =
+pub size_of_sum : (m : ℕ) (v : List ℤ) (w : ℕ → ℤ) (i : ℕ) → ((j : ℕ) → j < i → nat_abs (w j) ≤ m) → nat_abs (sum_to i (λ j. at v j *ℤ w j)) ≤ m * sum_by nat_abs (take i v)
+size_of_sum m v w zero small = subst (λ x. nat_abs x ≤ m * 0) (sym (sum_to_none (λ j. at v j *ℤ w j))) (omega arith)
+size_of_sum m v w (suc i) small =
     let f = λ (j : ℕ). at v j *ℤ w j in
-    let before = size-of-sum m v w i (λ j h. small j (omega arith)) in
-    let last = natAbs-times (at v i) (w i) in
+    let before = size_of_sum m v w i (λ j h. small j (omega arith)) in
+    let last = natAbs_times (at v i) (w i) in
     let last-small = mul-le-mul_left (nat_abs (at v i)) (small i (omega arith)) in
-    let both = natAbs-add (sum_to i f) (f i) in
+    let both = natAbs_add (sum_to i f) (f i) in
     let bound : nat_abs (sum_to i f +ℤ f i) ≤ m * (sum_by nat_abs (take i v) + nat_abs (at v i)) = omega arith in
-    subst (λ x. nat_abs x ≤ m * sum_by nat_abs (take (suc i) v)) (sym (sum-to-suc i f))
-    (subst (λ x. nat_abs (sum_to i f +ℤ f i) ≤ m * x) (sym (sizes-suc v i)) bound)
+    subst (λ x. nat_abs x ≤ m * sum_by nat_abs (take (suc i) v)) (sym (sum_to_suc i f))
+    (subst (λ x. nat_abs (sum_to i f +ℤ f i) ≤ m * x) (sym (sizes_suc v i)) bound)
 
-pub size-of-coefficient : (n m : ℕ) (u v : List ℤ) (k : ℕ) → k < n → ((i : ℕ) → i < n → nat_abs (at u i) ≤ m) → nat_abs (coefficient n (at u) (at v) k) ≤ m * sum_by nat_abs v
-size-of-coefficient n m u v k k< small =
+pub size_of_coefficient : (n m : ℕ) (u v : List ℤ) (k : ℕ) → k < n → ((i : ℕ) → i < n → nat_abs (at u i) ≤ m) → nat_abs (coefficient n (at u) (at v) k) ≤ m * sum_by nat_abs v
+size_of_coefficient n m u v k k< small =
     let w = shifted n (at u) k in
-    let is = coefficient-comm n (at u) (at v) k k< ∙ coefficient-is n (at v) (at u) k in
-    let each = λ (j : ℕ) (h : j < n). shifted-related (λ x y. nat_abs x ≤ m) n (at u) (at u) k j (λ x y l. subst (λ z. z ≤ m) (sym (natAbs-neg x)) l) k< h small in
+    let is = coefficient_comm n (at u) (at v) k k< ∙ coefficient_is n (at v) (at u) k in
+    let each = λ (j : ℕ) (h : j < n). shifted_related (λ x y. nat_abs x ≤ m) n (at u) (at u) k j (λ x y l. subst (λ z. z ≤ m) (sym (natAbs_neg x)) l) k< h small in
     let whole = mul-le-mul_left m (sum_by-take-le nat_abs v n) in
-    subst (λ x. nat_abs x ≤ m * sum_by nat_abs v) (sym is) (le_trans (size-of-sum m v w n each) whole)
+    subst (λ x. nat_abs x ≤ m * sum_by nat_abs v) (sym is) (le_trans (size_of_sum m v w n each) whole)

@@ -2,7 +2,7 @@
 use Rattle.std.specs.Prelude.{◌≡◌, ℕ, ◌+◌, ◌*◌, ◌<◌, ◌≤◌, List, [], ◌∷◌, ◌++◌, map, length, ℤ, pos, ◌+ℤ◌, ◌*ℤ◌, neg_ℤ, sum_by, unsigned_abs}
 use Rattle.std.specs.List.{range_with_len, AllByRecursion as All}
 use Rattle.ring.specs.Residues.{residue}
-use Rattle.element.specs.Products.{at, coefficient, integer-product, product}
+use Rattle.element.specs.Products.{at, coefficient, integer_product, product}
 
 -- the n sums of the coefficients of u and v
 unfoldable pub added : ℕ → List ℤ → List ℤ → List ℤ
@@ -18,28 +18,28 @@ residues q u = map (residue q) u
 
 pub record ProductLaws : Type 0 where
   -- 1 times v is v
-  pub one-times : (n : ℕ) (v : List ℤ) → 0 < n → length v ≡ n → integer-product n (pos 1 ∷ []) v ≡ v
+  pub one_times : (n : ℕ) (v : List ℤ) → 0 < n → length v ≡ n → integer_product n (pos 1 ∷ []) v ≡ v
   -- x moves each coefficient a place up, and the last one to the front with its sign changed, since x^n is -1
-  pub x-times : (n : ℕ) (v : List ℤ) (z : ℤ) → 0 < length v → length v + 1 ≡ n → integer-product n (pos 0 ∷ pos 1 ∷ []) (v ++ z ∷ []) ≡ neg_ℤ z ∷ v
+  pub x_times : (n : ℕ) (v : List ℤ) (z : ℤ) → 0 < length v → length v + 1 ≡ n → integer_product n (pos 0 ∷ pos 1 ∷ []) (v ++ z ∷ []) ≡ neg_ℤ z ∷ v
   -- the product is linear in the left factor
-  pub sum-on-the-left : (n : ℕ) (u w v : List ℤ) → integer-product n (added n u w) v ≡ added n (integer-product n u v) (integer-product n w v)
-  pub multiple-on-the-left : (n : ℕ) (c : ℤ) (u v : List ℤ) → integer-product n (scaled n c u) v ≡ scaled n c (integer-product n u v)
+  pub sum_on_the_left : (n : ℕ) (u w v : List ℤ) → integer_product n (added n u w) v ≡ added n (integer_product n u v) (integer_product n w v)
+  pub multiple_on_the_left : (n : ℕ) (c : ℤ) (u v : List ℤ) → integer_product n (scaled n c u) v ≡ scaled n c (integer_product n u v)
   -- and in the right factor
-  pub sum-on-the-right : (n : ℕ) (u v w : List ℤ) → integer-product n u (added n v w) ≡ added n (integer-product n u v) (integer-product n u w)
-  pub multiple-on-the-right : (n : ℕ) (c : ℤ) (u v : List ℤ) → integer-product n u (scaled n c v) ≡ scaled n c (integer-product n u v)
+  pub sum_on_the_right : (n : ℕ) (u v w : List ℤ) → integer_product n u (added n v w) ≡ added n (integer_product n u v) (integer_product n u w)
+  pub multiple_on_the_right : (n : ℕ) (c : ℤ) (u v : List ℤ) → integer_product n u (scaled n c v) ≡ scaled n c (integer_product n u v)
   -- the two factors may be exchanged
-  pub commutative : (n : ℕ) (u v : List ℤ) → integer-product n u v ≡ integer-product n v u
-  pub commutative-of-elements : (n q : ℕ) (a b : List ℕ) → product n q a b ≡ product n q b a
+  pub commutative : (n : ℕ) (u v : List ℤ) → integer_product n u v ≡ integer_product n v u
+  pub commutative_of_elements : (n q : ℕ) (a b : List ℕ) → product n q a b ≡ product n q b a
   -- to multiply by s and then by t is to multiply by t and then by s
-  pub either_order : (n : ℕ) (a s t : List ℤ) → integer-product n (integer-product n a s) t ≡ integer-product n (integer-product n a t) s
-  pub either-order-of-elements : (n q : ℕ) (a s t : List ℕ) → 0 < q → product n q (product n q a s) t ≡ product n q (product n q a t) s
+  pub either_order : (n : ℕ) (a s t : List ℤ) → integer_product n (integer_product n a s) t ≡ integer_product n (integer_product n a t) s
+  pub either_order_of_elements : (n q : ℕ) (a s t : List ℕ) → 0 < q → product n q (product n q a s) t ≡ product n q (product n q a t) s
   -- where no coefficient of u is larger than m, none of the product is larger than m times the sum of the sizes of v's
   pub size : (n m : ℕ) (u v : List ℤ) (k : ℕ) → k < n → ((i : ℕ) → i < n → unsigned_abs (at u i) ≤ m) → unsigned_abs (coefficient n (at u) (at v) k) ≤ m * sum_by unsigned_abs v
   -- the product of the residues is the residues of the product
-  pub residues-of-product : (n q : ℕ) (u v : List ℤ) → 0 < q → product n q (residues q u) (residues q v) ≡ residues q (integer-product n u v)
+  pub residues_of_product : (n q : ℕ) (u v : List ℤ) → 0 < q → product n q (residues q u) (residues q v) ≡ residues q (integer_product n u v)
   -- so the product of elements is linear too
-  pub element-sum-on-the-left : (n q : ℕ) (u w v : List ℤ) → 0 < q → product n q (residues q (added n u w)) (residues q v) ≡ residues q (added n (integer-product n u v) (integer-product n w v))
-  pub element-sum-on-the-right : (n q : ℕ) (u v w : List ℤ) → 0 < q → product n q (residues q u) (residues q (added n v w)) ≡ residues q (added n (integer-product n u v) (integer-product n u w))
+  pub element_sum_on_the_left : (n q : ℕ) (u w v : List ℤ) → 0 < q → product n q (residues q (added n u w)) (residues q v) ≡ residues q (added n (integer_product n u v) (integer_product n w v))
+  pub element_sum_on_the_right : (n q : ℕ) (u v w : List ℤ) → 0 < q → product n q (residues q u) (residues q (added n v w)) ≡ residues q (added n (integer_product n u v) (integer_product n u w))
   -- the product is an element: n numbers below q
-  pub length-of-product : (n q : ℕ) (a b : List ℕ) → length (product n q a b) ≡ n
-  pub numbers-below-q : (n q : ℕ) (a b : List ℕ) → 0 < q → All (λ x. x < q) (product n q a b)
+  pub length_of_product : (n q : ℕ) (a b : List ℕ) → length (product n q a b) ≡ n
+  pub numbers_below_q : (n q : ℕ) (a b : List ℕ) → 0 < q → All (λ x. x < q) (product n q a b)

@@ -21,9 +21,9 @@ unfoldable pub coefficient : ℕ → (ℕ → ℤ) → (ℕ → ℤ) → ℕ →
 coefficient n u v k = sum_to n (λ i. u i *ℤ shifted n v k i)
 
 -- the product of two integer lists
-unfoldable pub integer-product : ℕ → List ℤ → List ℤ → List ℤ
-integer-product n u v = map (coefficient n (at u) (at v)) (range_with_len 0 n)
+unfoldable pub integer_product : ℕ → List ℤ → List ℤ → List ℤ
+integer_product n u v = map (coefficient n (at u) (at v)) (range_with_len 0 n)
 
 -- the product of two elements
 unfoldable pub product : ℕ → ℕ → List ℕ → List ℕ → List ℕ
-product n q a b = map (residue q) (integer-product n (map pos a) (map pos b))
+product n q a b = map (residue q) (integer_product n (map pos a) (map pos b))

@@ -4,23 +4,23 @@ use Rattle.ring.specs.Faults.{number_of, place_of}
 use Rattle.ring.specs.declared.fault.Fault.{Fault}
 
 -- a fault's number, from bit 56 on, and its place below
-abbrev pub fault-code : Fault → ℕ
-fault-code fault = number_of fault * 2 ^ 56 + min (place_of fault) (2 ^ 56 - 1)
+abbrev pub fault_code : Fault → ℕ
+fault_code fault = number_of fault * 2 ^ 56 + min (place_of fault) (2 ^ 56 - 1)
 
 -- an accepted value as itself
-abbrev pub value-code : Result ℕ Fault → ℕ
-value-code (Ok value) = value
-value-code (Err fault) = fault-code fault
+abbrev pub value_code : Result ℕ Fault → ℕ
+value_code (Ok value) = value
+value_code (Err fault) = fault_code fault
 
 -- a signal and a key bit
 abbrev pub pair_code : Result (ℕ × ℕ) Fault → ℕ
 pair_code (Ok pair) = 2 * pair.0 + pair.1
-pair_code (Err fault) = fault-code fault
+pair_code (Err fault) = fault_code fault
 
 -- an acceptance without a value
-abbrev pub done-code : Result (Unit {0}) Fault → ℕ
-done-code (Ok _) = 0
-done-code (Err fault) = fault-code fault
+abbrev pub done_code : Result (Unit {0}) Fault → ℕ
+done_code (Ok _) = 0
+done_code (Err fault) = fault_code fault
 
 -- where no call can be made
 abbrev pub no_call : ℕ

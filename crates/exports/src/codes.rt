@@ -1,6 +1,6 @@
 // How an answer is told in one number of 64 bits.
 ghost use Rattle.std.specs.Prelude.{◌≡◌};
-ghost use Rattle.exports.specs.Codes.{fault-code, done-code};
+ghost use Rattle.exports.specs.Codes.{fault_code, done_code};
 
 use ring::Fault;
 
@@ -11,14 +11,14 @@ const LARGEST_PLACE: u64 = (1 << 56) - 1;
 
 // The fault's number, from bit 56 on, and its place below.
 pub(crate) fn fault_code(fault: Fault) -> u64
-    ensures { result ≡ fault-code fault }
+    ensures { result ≡ fault_code fault }
 {
     u64::from(fault.number()) * (1 << 56) + (fault.place() as u64).min(LARGEST_PLACE)
 }
 
 // The code of an answer without a value.
 pub(crate) fn done_code(answer: Result<(), Fault>) -> u64
-    ensures { result ≡ done-code answer }
+    ensures { result ≡ done_code answer }
 {
     match answer {
         Ok(()) => 0,

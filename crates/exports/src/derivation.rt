@@ -1,9 +1,9 @@
 // Derived elements of the house profiles, and SHAKE128.
 ghost use Rattle.std.specs.Prelude.{◌≡◌, length};
-ghost use Rattle.keccak.specs.Sponge.{shake128 as shake128-of};
-ghost use Rattle.exports.specs.ByProfile.{by-profile};
+ghost use Rattle.keccak.specs.Sponge.{shake128 as shake128_of};
+ghost use Rattle.exports.specs.ByProfile.{by_profile};
 ghost use Rattle.exports.specs.Codes.{no_call};
-ghost use Rattle.exports.specs.Elements.{derive-code, derive-output, derive-seed-code, derive-seed-output};
+ghost use Rattle.exports.specs.Elements.{derive_code, derive_output, derive_seed_code, derive_seed_output};
 
 use crate::codes::{NO_CALL, done_code};
 use house::{House, S, T, W};
@@ -18,8 +18,8 @@ fn derive_code<P: Profile, B: ByteSource>(
     seed: &[u8; 16],
     output: &mut [u32],
 ) -> u64
-    ensures answers { result ≡ derive-code P.Profile.numbers (B.ByteSource.meaning source.old seed.now) output.old }
-    ensures writes { output.new ≡ derive-output P.Profile.numbers (B.ByteSource.meaning source.old seed.now) output.old }
+    ensures answers { result ≡ derive_code P.Profile.numbers (B.ByteSource.meaning source.old seed.now) output.old }
+    ensures writes { output.new ≡ derive_output P.Profile.numbers (B.ByteSource.meaning source.old seed.now) output.old }
 {
     done_code(derive::<P, B>(source, seed, output))
 }
@@ -31,8 +31,8 @@ fn derive_by_profile<B: ByteSource>(
     seed: &[u8; 16],
     output: &mut [u32],
 ) -> u64
-    ensures answers { result ≡ by-profile (λ numbers _. derive-code numbers (B.ByteSource.meaning source.old seed.now) output.old) no_call profile }
-    ensures writes { output.new ≡ by-profile (λ numbers _. derive-output numbers (B.ByteSource.meaning source.old seed.now) output.old) output.old profile }
+    ensures answers { result ≡ by_profile (λ numbers _. derive_code numbers (B.ByteSource.meaning source.old seed.now) output.old) no_call profile }
+    ensures writes { output.new ≡ by_profile (λ numbers _. derive_output numbers (B.ByteSource.meaning source.old seed.now) output.old) output.old profile }
 {
     match profile {
         0 => derive_code::<House<T, Ding>, B>(source, seed, output),
@@ -47,8 +47,8 @@ fn derive_by_profile<B: ByteSource>(
 
 #[unsafe(no_mangle)]
 pub extern "C" fn exported_derive_tape(profile: u8, tape: &[u8], output: &mut [u32]) -> u64
-    ensures answers { result ≡ by-profile (λ numbers _. derive-code numbers tape.now output.old) no_call profile }
-    ensures writes { output.new ≡ by-profile (λ numbers _. derive-output numbers tape.now output.old) output.old profile }
+    ensures answers { result ≡ by_profile (λ numbers _. derive_code numbers tape.now output.old) no_call profile }
+    ensures writes { output.new ≡ by_profile (λ numbers _. derive_output numbers tape.now output.old) output.old profile }
 {
     derive_by_profile(profile, &mut Tape::new(tape), &[0; 16], output)
 }
@@ -56,8 +56,8 @@ pub extern "C" fn exported_derive_tape(profile: u8, tape: &[u8], output: &mut [u
 // By SHAKE128 of a seed, if it has 16 bytes.
 #[unsafe(no_mangle)]
 pub extern "C" fn exported_derive_shake(profile: u8, seed: &[u8], output: &mut [u32]) -> u64
-    ensures answers { result ≡ derive-seed-code profile seed.now output.old }
-    ensures writes { output.new ≡ derive-seed-output profile seed.now output.old }
+    ensures answers { result ≡ derive_seed_code profile seed.now output.old }
+    ensures writes { output.new ≡ derive_seed_output profile seed.now output.old }
 {
     if seed.len() != 16 {
         return NO_CALL;
@@ -69,7 +69,7 @@ pub extern "C" fn exported_derive_shake(profile: u8, seed: &[u8], output: &mut [
 
 #[unsafe(no_mangle)]
 pub extern "C" fn exported_shake128(message: &[u8], output: &mut [u8])
-    ensures { output.new ≡ shake128-of message.now (length output.old) }
+    ensures { output.new ≡ shake128_of message.now (length output.old) }
 {
     shake128(message, output);
 }

@@ -1,4 +1,6 @@
 // The functions of the library that C and Rust can link: on numbers and slices, for tests and benchmarks.
+#![tactic(auto)]
+
 mod codes;
 mod derivation;
 mod elements;

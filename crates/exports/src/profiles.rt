@@ -1,9 +1,9 @@
 // The four functions of the house profiles, by the index of a profile: 0 T Ding, 1 T OKCN, 2 S Ding, 3 S OKCN, 4 W Ding,
 // 5 W OKCN.
 ghost use Rattle.std.specs.Prelude.{◌≡◌};
-ghost use Rattle.profile.specs.Answers.{round-answer, recover-answer, reconcile-answer, read_answer};
-ghost use Rattle.exports.specs.ByProfile.{by-profile};
-ghost use Rattle.exports.specs.Codes.{value-code, pair_code, no_call};
+ghost use Rattle.profile.specs.Answers.{round_answer, recover_answer, reconcile_answer, read_answer};
+ghost use Rattle.exports.specs.ByProfile.{by_profile};
+ghost use Rattle.exports.specs.Codes.{value_code, pair_code, no_call};
 
 use crate::codes::{NO_CALL, fault_code};
 use house::{House, S, T, W};
@@ -26,7 +26,7 @@ macro_rules! by_profile {
 }
 
 fn round_code<P: Profile>(x: u32) -> u64
-    ensures { result ≡ value-code (round-answer P.Profile.numbers P.Profile.functions x) }
+    ensures { result ≡ value_code (round_answer P.Profile.numbers P.Profile.functions x) }
 {
     match P::round(x) {
         Ok(y) => u64::from(y),
@@ -35,7 +35,7 @@ fn round_code<P: Profile>(x: u32) -> u64
 }
 
 fn recover_code<P: Profile>(y: u32) -> u64
-    ensures { result ≡ value-code (recover-answer P.Profile.numbers P.Profile.functions y) }
+    ensures { result ≡ value_code (recover_answer P.Profile.numbers P.Profile.functions y) }
 {
     match P::recover(y) {
         Ok(t) => u64::from(t),
@@ -44,7 +44,7 @@ fn recover_code<P: Profile>(y: u32) -> u64
 }
 
 fn reconcile_code<P: Profile>(x: u32, coin: u8) -> u64
-    ensures { result ≡ pair_code (reconcile-answer P.Profile.numbers P.Profile.functions x coin) }
+    ensures { result ≡ pair_code (reconcile_answer P.Profile.numbers P.Profile.functions x coin) }
 {
     match P::reconcile(x, coin) {
         Ok((signal, bit)) => 2 * u64::from(signal) + u64::from(bit),
@@ -53,7 +53,7 @@ fn reconcile_code<P: Profile>(x: u32, coin: u8) -> u64
 }
 
 fn read_code<P: Profile>(y: u32, signal: u8) -> u64
-    ensures { result ≡ value-code (read_answer P.Profile.numbers P.Profile.functions y signal) }
+    ensures { result ≡ value_code (read_answer P.Profile.numbers P.Profile.functions y signal) }
 {
     match P::read(y, signal) {
         Ok(bit) => u64::from(bit),
@@ -63,28 +63,28 @@ fn read_code<P: Profile>(y: u32, signal: u8) -> u64
 
 #[unsafe(no_mangle)]
 pub extern "C" fn exported_round(profile: u8, x: u32) -> u64
-    ensures { result ≡ by-profile (λ numbers functions. value-code (round-answer numbers functions x)) no_call profile }
+    ensures { result ≡ by_profile (λ numbers functions. value_code (round_answer numbers functions x)) no_call profile }
 {
     by_profile!(profile, round_code, x)
 }
 
 #[unsafe(no_mangle)]
 pub extern "C" fn exported_recover(profile: u8, y: u32) -> u64
-    ensures { result ≡ by-profile (λ numbers functions. value-code (recover-answer numbers functions y)) no_call profile }
+    ensures { result ≡ by_profile (λ numbers functions. value_code (recover_answer numbers functions y)) no_call profile }
 {
     by_profile!(profile, recover_code, y)
 }
 
 #[unsafe(no_mangle)]
 pub extern "C" fn exported_reconcile(profile: u8, x: u32, coin: u8) -> u64
-    ensures { result ≡ by-profile (λ numbers functions. pair_code (reconcile-answer numbers functions x coin)) no_call profile }
+    ensures { result ≡ by_profile (λ numbers functions. pair_code (reconcile_answer numbers functions x coin)) no_call profile }
 {
     by_profile!(profile, reconcile_code, x, coin)
 }
 
 #[unsafe(no_mangle)]
 pub extern "C" fn exported_read(profile: u8, y: u32, signal: u8) -> u64
-    ensures { result ≡ by-profile (λ numbers functions. value-code (read_answer numbers functions y signal)) no_call profile }
+    ensures { result ≡ by_profile (λ numbers functions. value_code (read_answer numbers functions y signal)) no_call profile }
 {
     by_profile!(profile, read_code, y, signal)
 }

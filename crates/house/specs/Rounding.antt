@@ -2,9 +2,9 @@
 use Rattle.std.specs.Prelude.{◌≡◌, ℕ, zero, suc, ◌+◌, ◌-◌, ◌*◌, ◌/◌, ◌%◌, ◌<◌, ◌≤◌, Bool, cond, ◌⊎◌, ◌==◌, ◌≢◌, nat_lt}
 
 -- the first of so many numbers, from `from` on, that passes
-abbrev pub least-from : ℕ → ℕ → (ℕ → Bool) → ℕ
-least-from from zero passes = from
-least-from from (suc many) passes = cond (passes from) from (least-from (suc from) many passes)
+abbrev pub least_from : ℕ → ℕ → (ℕ → Bool) → ℕ
+least_from from zero passes = from
+least_from from (suc many) passes = cond (passes from) from (least_from (suc from) many passes)
 
 -- a and b differ by a multiple of step
 abbrev pub same_class : ℕ → ℕ → ℕ → Bool
@@ -29,7 +29,7 @@ candidate step x i = x % step + step * i
 module _ (q p step : ℕ) where
   -- the least integer at or above floor(y q / p) that differs from y by a multiple of step
   abbrev pub recover : ℕ → ℕ
-  recover y = least-from (y * q / p) step (λ t. same_class step t y)
+  recover y = least_from (y * q / p) step (λ t. same_class step t y)
 
   -- the candidate in 0 .. p that recovers nearest to x, the smaller at a tie
   abbrev pub round : ℕ → ℕ

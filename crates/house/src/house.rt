@@ -1,8 +1,8 @@
 // One text for every house profile.
 ghost use Rattle.std.specs.Prelude.{◌≡◌};
-ghost use Rattle.house.specs.House.{house-numbers, house-functions};
+ghost use Rattle.house.specs.House.{house_numbers, house_functions};
 ghost use Rattle.reconcile.specs.Reconcilers.{tolerance};
-ghost use Rattle.house.specs.Lawfulness.{house-lawful};
+ghost use Rattle.house.specs.Lawfulness.{house_lawful};
 ghost use Rattle.std.proofs.Common.{rules};
 
 use crate::number_set::NumberSet;
@@ -38,11 +38,11 @@ fn tau<S: NumberSet, K: Reconciler>() -> u32
 impl<S: NumberSet, K: Reconciler> Profile for House<S, K> {
     type Secret = S::Secret;
 
-    ghost numbers = { house-numbers S.NumberSet.sizes K.Reconciler.numbers };
+    ghost numbers = { house_numbers S.NumberSet.sizes K.Reconciler.numbers };
 
-    ghost functions = { house-functions S.NumberSet.sizes K.Reconciler.numbers K.Reconciler.meaning };
+    ghost functions = { house_functions S.NumberSet.sizes K.Reconciler.numbers K.Reconciler.meaning };
 
-    ghost lawful = { house-lawful S.NumberSet.sizes K.Reconciler.numbers K.Reconciler.meaning S.NumberSet.admissible K.Reconciler.sound };
+    ghost lawful = { house_lawful S.NumberSet.sizes K.Reconciler.numbers K.Reconciler.meaning S.NumberSet.admissible K.Reconciler.sound };
 
     ghost secret_bounds = { Prim.search rules };
 

@@ -1,4 +1,6 @@
 // The house profiles: three number sets by two reconcilers, from one text.
+#![tactic(auto)]
+
 mod house;
 mod number_set;
 mod rounding;

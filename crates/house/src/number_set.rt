@@ -1,8 +1,8 @@
 // The three number sets.
 ghost use Rattle.std.specs.Prelude.{◌≡◌};
-ghost use Rattle.house.specs.NumberSets.{Admissible, secret-bounds, sizes-t, sizes-s, sizes-w};
+ghost use Rattle.house.specs.NumberSets.{Admissible, secret_bounds, sizes_t, sizes_s, sizes_w};
 ghost use Rattle.house.specs.declared.sizes.Sizes.{Sizes};
-ghost use Rattle.house.specs.AdmissibleSets.{admissible-t, admissible-s, admissible-w};
+ghost use Rattle.house.specs.AdmissibleSets.{admissible_t, admissible_s, admissible_w};
 ghost use Rattle.std.proofs.Common.{rules};
 
 use crate::sizes::Sizes;
@@ -22,7 +22,7 @@ pub trait NumberSet {
 
     ghost admissible: { Admissible sizes };
 
-    ghost secret_bounds: { Self.Secret.SecretPlace.bounds ≡ secret-bounds sizes };
+    ghost secret_bounds: { Self.Secret.SecretPlace.bounds ≡ secret_bounds sizes };
 }
 
 // Small enough to work through by hand.
@@ -42,9 +42,9 @@ impl NumberSet for T {
 
     type Secret = Place<4, 1, 4>;
 
-    ghost sizes = { sizes-t };
+    ghost sizes = { sizes_t };
 
-    ghost admissible = { admissible-t };
+    ghost admissible = { admissible_t };
 
     ghost secret_bounds = { Prim.search rules };
 
@@ -70,9 +70,9 @@ impl NumberSet for S {
 
     type Secret = Place<512, 2, 191>;
 
-    ghost sizes = { sizes-s };
+    ghost sizes = { sizes_s };
 
-    ghost admissible = { admissible-s };
+    ghost admissible = { admissible_s };
 
     ghost secret_bounds = { Prim.search rules };
 
@@ -98,9 +98,9 @@ impl NumberSet for W {
 
     type Secret = Place<256, 7, 1792>;
 
-    ghost sizes = { sizes-w };
+    ghost sizes = { sizes_w };
 
-    ghost admissible = { admissible-w };
+    ghost admissible = { admissible_w };
 
     ghost secret_bounds = { Prim.search rules };
 

@@ -1,6 +1,6 @@
 // House rounding: a residue below q goes to a value in 0 .. p of its own class modulo step, and back.
 ghost use Rattle.std.specs.Prelude.{◌≡◌, ◌+◌, ◌*◌, ◌/◌, ◌^◌, ◌<◌, ◌≤◌, ◌⊎◌};
-ghost use Rattle.house.specs.Rounding.{recover as recover-value, round as round-value};
+ghost use Rattle.house.specs.Rounding.{recover as recover_value, round as round_value};
 
 // The least integer at or above floor(y q / p) that differs from y by a multiple of step.
 pub(crate) fn recover(q: u32, p: u32, step: u32, y: u32) -> u32
@@ -8,7 +8,7 @@ pub(crate) fn recover(q: u32, p: u32, step: u32, y: u32) -> u32
     requires modulus { (p < q) × (q < 2 ^ 23) }
     requires one_or_two { (step ≡ 1) ⊎ (step ≡ 2) }
     requires within { y ≤ p }
-    ensures { result ≡ recover-value q p step y }
+    ensures { result ≡ recover_value q p step y }
 {
     // floor(y q / p), in parts that fit 32 bits
     let floor = y * (q / p) + y * (q % p) / p;
@@ -36,7 +36,7 @@ pub(crate) fn round(q: u32, p: u32, step: u32, x: u32) -> u32
     requires modulus { (p < q) × (q < 2 ^ 23) }
     requires one_or_two { (step ≡ 1) ⊎ (step ≡ 2) }
     requires within { x < q }
-    ensures { result ≡ round-value q p step x }
+    ensures { result ≡ round_value q p step x }
 {
     let last = last_at_most(q, p, x);
     let over = (last + x) % step;

@@ -1,7 +1,7 @@
 // What is proved of the house profiles as a whole. A theorem stands on a function's contract, where the check asks for its proof.
 ghost use Rattle.std.specs.Prelude.{◌≡◌, [], ◌∷◌};
 ghost use Rattle.house.specs.Bench.{BenchValues};
-ghost use Rattle.house.specs.House.{t-ding, t-okcn, s-ding, s-okcn, w-ding, w-okcn, HouseProfilesLawful};
+ghost use Rattle.house.specs.House.{t_ding, t_okcn, s_ding, s_okcn, w_ding, w_okcn, HouseProfilesLawful};
 ghost use Rattle.house.specs.Rounding.{RoundingIsNearest, TieIsMidway};
 
 use crate::house::House;
@@ -11,7 +11,7 @@ use reconcile::{Ding, Okcn, Reconciler};
 
 // The numbers of the six house profiles, each of which is lawful.
 pub fn house_profiles() -> [Numbers; 6]
-    ensures rows { result ≡ t-ding ∷ t-okcn ∷ s-ding ∷ s-okcn ∷ w-ding ∷ w-okcn ∷ [] }
+    ensures rows { result ≡ t_ding ∷ t_okcn ∷ s_ding ∷ s_okcn ∷ w_ding ∷ w_okcn ∷ [] }
     ensures lawful { HouseProfilesLawful }
 {
     [

@@ -4,40 +4,40 @@ use Rattle.std.specs.List.{range_with_len}
 use Rattle.std.proofs.lemmas.List.FromFn.{length-map-range_with_len, get_or-map-range_with_len, map-range_with_len_more, fill_by_all}
 use Rattle.std.proofs.lemmas.List.{take-append-le, drop-append-le, take_all}
 use Rattle.std.proofs.lemmas.List.Sums.{fold_push}
-use Rattle.keccak.proofs.Padding.{length-padding}
-use Rattle.keccak.specs.Permutation.{keccak-f}
-use Rattle.keccak.specs.Sponge.{rate, padding, blocks, added, absorbed-block, absorbed}
+use Rattle.keccak.proofs.Padding.{length_padding}
+use Rattle.keccak.specs.Permutation.{keccak_f}
+use Rattle.keccak.specs.Sponge.{rate, padding, blocks, added, absorbed_block, absorbed}
 
 -- block i of a message
 abbrev pub block_at : List ℕ → ℕ → List ℕ
 block_at m i = take 168 (drop (168 * i) m)
 
 -- the state after the first n blocks
-unfoldable pub after-blocks : List ℕ → ℕ → List ℕ
-after-blocks m n = fold absorbed-block (replicate 25 0) (map (block_at m) (range_with_len 0 n))
+unfoldable pub after_blocks : List ℕ → ℕ → List ℕ
+after_blocks m n = fold absorbed_block (replicate 25 0) (map (block_at m) (range_with_len 0 n))
 
-pub after_none : (m : List ℕ) → replicate 25 0 ≡ after-blocks m 0
-unfolding after-blocks
+pub after_none : (m : List ℕ) → replicate 25 0 ≡ after_blocks m 0
+unfolding after_blocks
 after_none m = refl
 
-after-step : (m : List ℕ) (n : ℕ) → after-blocks m (n + 1) ≡ absorbed-block (after-blocks m n) (block_at m n)
-unfolding after-blocks
-after-step m n =
-    ap (fold absorbed-block (replicate 25 0)) (map-range_with_len_more (block_at m) 0 n n (omega arith))
-    ∙ fold_push absorbed-block (replicate 25 0) (map (block_at m) (range_with_len 0 n)) (block_at m n)
+after_step : (m : List ℕ) (n : ℕ) → after_blocks m (n + 1) ≡ absorbed_block (after_blocks m n) (block_at m n)
+unfolding after_blocks
+after_step m n =
+    ap (fold absorbed_block (replicate 25 0)) (map-range_with_len_more (block_at m) 0 n n (omega arith))
+    ∙ fold_push absorbed_block (replicate 25 0) (map (block_at m) (range_with_len 0 n)) (block_at m n)
 
-pub after_more : (m s b t u : List ℕ) (n : ℕ) → s ≡ after-blocks m n → b ≡ block_at m n → t ≡ added s b → u ≡ keccak-f t → u ≡ after-blocks m (n + 1)
-unfolding absorbed-block
+pub after_more : (m s b t u : List ℕ) (n : ℕ) → s ≡ after_blocks m n → b ≡ block_at m n → t ≡ added s b → u ≡ keccak_f t → u ≡ after_blocks m (n + 1)
+unfolding absorbed_block
 after_more m s b t u n is block by-adding by-permuting =
-    by-permuting ∙ ap keccak-f (by-adding ∙ ap (λ a. added a b) is ∙ ap (added (after-blocks m n)) block) ∙ sym (after-step m n)
+    by-permuting ∙ ap keccak_f (by-adding ∙ ap (λ a. added a b) is ∙ ap (added (after_blocks m n)) block) ∙ sym (after_step m n)
 
 map_same : {X : Type 0} (d : X) (f g : ℕ → X) (n : ℕ) → ((k : ℕ) → k < n → f k ≡ g k) → map f (range_with_len 0 n) ≡ map g (range_with_len 0 n)
 map_same d f g n same =
     fill_by_all g (map f (range_with_len 0 n)) n d (length-map-range_with_len f 0 n) (λ k h. get_or-map-range_with_len f 0 n k k d h (omega arith) ∙ same k h)
 
 -- the padding leaves the whole blocks of a message as they are
-block-before : (m p : List ℕ) (i : ℕ) → 168 * i + 168 ≤ length m → block_at (m ++ p) i ≡ block_at m i
-block-before m p i within =
+block_before : (m p : List ℕ) (i : ℕ) → 168 * i + 168 ≤ length m → block_at (m ++ p) i ≡ block_at m i
+block_before m p i within =
     ap (take 168) (drop-append-le (168 * i) m p (omega arith)) ∙ take-append-le 168 (drop (168 * i) m) p (omega (arith, length-drop (168 * i) m))
 
 -- and completes the rest to a block
@@ -46,23 +46,23 @@ block_last m p i within whole =
     ap (take 168) (drop-append-le (168 * i) m p within)
     ∙ take_all 168 (drop (168 * i) m ++ p) (omega (arith, length-append (drop (168 * i) m) p, length-drop (168 * i) m))
 
-blocks-padded : (m p : List ℕ) (n : ℕ) → 168 * n ≤ length m → length m + length p ≡ 168 * n + 168 → blocks (m ++ p) ≡ map (block_at m) (range_with_len 0 n) ++ (drop (168 * n) m ++ p) ∷ []
-blocks-padded m p n within whole =
+blocks_padded : (m p : List ℕ) (n : ℕ) → 168 * n ≤ length m → length m + length p ≡ 168 * n + 168 → blocks (m ++ p) ≡ map (block_at m) (range_with_len 0 n) ++ (drop (168 * n) m ++ p) ∷ []
+blocks_padded m p n within whole =
     let many : length (m ++ p) / 168 ≡ n + 1 = omega (arith, length-append m p) in
     ap (λ k. map (block_at (m ++ p)) (range_with_len 0 k)) many
     ∙ map-range_with_len_more (block_at (m ++ p)) 0 n n (omega arith)
-    ∙ ap (λ l. l ++ block_at (m ++ p) n ∷ []) (map_same [] (block_at (m ++ p)) (block_at m) n (λ k h. block-before m p k (omega arith)))
+    ∙ ap (λ l. l ++ block_at (m ++ p) n ∷ []) (map_same [] (block_at (m ++ p)) (block_at m) n (λ k h. block_before m p k (omega arith)))
     ∙ ap (λ b. map (block_at m) (range_with_len 0 n) ++ b ∷ []) (block_last m p n within whole)
 
 -- the whole message: its whole blocks, and the rest with its padding
-pub absorbed-is : (m rest s last t : List ℕ) → rest ≡ drop (168 * (length m / 168)) m → s ≡ after-blocks m (length m / 168) → last ≡ rest ++ padding (rate - length rest) → t ≡ added s last → keccak-f t ≡ absorbed m
-unfolding absorbed absorbed-block after-blocks
-absorbed-is m rest s last t is-rest is_state is_last by-adding =
+pub absorbed_is : (m rest s last t : List ℕ) → rest ≡ drop (168 * (length m / 168)) m → s ≡ after_blocks m (length m / 168) → last ≡ rest ++ padding (rate - length rest) → t ≡ added s last → keccak_f t ≡ absorbed m
+unfolding absorbed absorbed_block after_blocks
+absorbed_is m rest s last t is-rest is_state is_last by-adding =
     let n : ℕ = length m / 168 in
     let p : List ℕ = padding (rate - length m % rate) in
     let size : length rest ≡ length m % rate = ap length is-rest ∙ length-drop (168 * n) m ∙ omega arith in
-    let lacking : length p ≡ rate - length m % rate = length-padding (rate - length m % rate) (omega arith) in
+    let lacking : length p ≡ rate - length m % rate = length_padding (rate - length m % rate) (omega arith) in
     let block : last ≡ drop (168 * n) m ++ p = is_last ∙ ap (λ k. rest ++ padding (rate - k)) size ∙ ap (λ r. r ++ p) is-rest in
-    ap keccak-f (by-adding ∙ ap (λ a. added a last) is_state ∙ ap (added (after-blocks m n)) block)
-    ∙ sym (fold_push absorbed-block (replicate 25 0) (map (block_at m) (range_with_len 0 n)) (drop (168 * n) m ++ p))
-    ∙ sym (ap (fold absorbed-block (replicate 25 0)) (blocks-padded m p n (omega arith) (omega arith)))
+    ap keccak_f (by-adding ∙ ap (λ a. added a last) is_state ∙ ap (added (after_blocks m n)) block)
+    ∙ sym (fold_push absorbed_block (replicate 25 0) (map (block_at m) (range_with_len 0 n)) (drop (168 * n) m ++ p))
+    ∙ sym (ap (fold absorbed_block (replicate 25 0)) (blocks_padded m p n (omega arith) (omega arith)))

@@ -3,7 +3,7 @@ use Rattle.std.proofs.Common.{◌≡◌, ℕ, ◌+◌, ◌*◌, ◌/◌, ◌%◌
 use Rattle.std.specs.List.{range_with_len}
 use Rattle.std.proofs.lemmas.List.FromFn.{fill_by_all}
 use Rattle.std.proofs.lemmas.List.Edits.{fill_by_more}
-use Rattle.keccak.specs.Permutation.{by-lane}
+use Rattle.keccak.specs.Permutation.{by_lane}
 
 -- `out` has `many` places, and at each below n it has f of the place
 abbrev pub Listed : (ℕ → ℕ) → ℕ → List ℕ → ℕ → Type 0
@@ -15,8 +15,8 @@ listed_more f many out i v below (long, before) is = (
   λ k h. subst (λ w. get_or (set out i w) k 0 ≡ f k) (sym is) (fill_by_more f out i 0 (omega arith) before k h),
 )
 
-pub listed-all : (f : ℕ → ℕ) (many : ℕ) (out : List ℕ) (n : ℕ) → n ≡ many → Listed f many out n → out ≡ map f (range_with_len 0 many)
-listed-all f many out n whole (long, all) = fill_by_all f out many 0 long (λ k h. all k (omega arith))
+pub listed_all : (f : ℕ → ℕ) (many : ℕ) (out : List ℕ) (n : ℕ) → n ≡ many → Listed f many out n → out ≡ map f (range_with_len 0 many)
+listed_all f many out n whole (long, all) = fill_by_all f out many 0 long (λ k h. all k (omega arith))
 
 -- the lanes of a state, as a function of the place
 abbrev pub placed : (ℕ → ℕ → ℕ) → ℕ → ℕ
@@ -34,6 +34,6 @@ filled_more f out x y v below-x below-y before is =
     let next : x + 5 * y + 1 ≡ x + 1 + 5 * y = omega arith in
     subst (Filled f (set out (x + 5 * y) v)) next (listed_more (placed f) 25 out (x + 5 * y) v (omega arith) before (is ∙ sym here))
 
-pub filled-all : (f : ℕ → ℕ → ℕ) (out : List ℕ) (n : ℕ) → n ≡ 25 → Filled f out n → out ≡ by-lane f
-unfolding by-lane
-filled-all f out n whole all = listed-all (placed f) 25 out n whole all
+pub filled_all : (f : ℕ → ℕ → ℕ) (out : List ℕ) (n : ℕ) → n ≡ 25 → Filled f out n → out ≡ by_lane f
+unfolding by_lane
+filled_all f out n whole all = listed_all (placed f) 25 out n whole all

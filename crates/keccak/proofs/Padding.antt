@@ -10,26 +10,26 @@ use Rattle.keccak.specs.Sponge.{rate, padding}
 abbrev pub finished : List ℕ → ℕ → List ℕ
 finished block used = set (set block used 0x1f) 167 (bit_xor (get_or (set block used 0x1f) 167 0) 0x80)
 
-padding-of-two : (n : ℕ) → padding (suc (suc n)) ≡ (0x1f ∷ replicate n 0) ++ 0x80 ∷ []
-padding-of-two n =
+padding_of_two : (n : ℕ) → padding (suc (suc n)) ≡ (0x1f ∷ replicate n 0) ++ 0x80 ∷ []
+padding_of_two n =
     let zeros : suc (suc n) - 2 ≡ n = omega arith in
     cond-false (eqb (suc (suc n)) 1) (0x9f ∷ []) ((0x1f ∷ replicate (suc (suc n) - 2) 0) ++ 0x80 ∷ []) (ne_eqb (suc (suc n)) 1 (λ e. omega arith))
     ∙ ap (λ k. (0x1f ∷ replicate k 0) ++ 0x80 ∷ []) zeros
 
-pub length-padding : (n : ℕ) → 0 < n → length (padding n) ≡ n
-length-padding zero some = absurd (omega arith)
-length-padding (suc zero) some = refl
-length-padding (suc (suc n)) some =
-    ap length (padding-of-two n) ∙ length-append (0x1f ∷ replicate n 0) (0x80 ∷ []) ∙ ap (λ k. suc k + 1) (length-replicate n 0) ∙ omega arith
+pub length_padding : (n : ℕ) → 0 < n → length (padding n) ≡ n
+length_padding zero some = absurd (omega arith)
+length_padding (suc zero) some = refl
+length_padding (suc (suc n)) some =
+    ap length (padding_of_two n) ∙ length-append (0x1f ∷ replicate n 0) (0x80 ∷ []) ∙ ap (λ k. suc k + 1) (length-replicate n 0) ∙ omega arith
 
 -- the rest and zeros, by how many zeros follow the first
-finished-by : (rest : List ℕ) (n : ℕ) → length rest + suc n ≡ rate → finished (rest ++ replicate (suc n) 0) (length rest) ≡ rest ++ padding (suc n)
-finished-by rest zero whole =
+finished_by : (rest : List ℕ) (n : ℕ) → length rest + suc n ≡ rate → finished (rest ++ replicate (suc n) 0) (length rest) ≡ rest ++ padding (suc n)
+finished_by rest zero whole =
     let at : length rest ≡ 167 = omega arith in
     ap (λ b. set b 167 (bit_xor (get_or b 167 0) 0x80)) (set_at rest 0 [] 0x1f (length rest) refl)
     ∙ ap (λ v. set (rest ++ 0x1f ∷ []) 167 (bit_xor v 0x80)) (get_or_at rest 0x1f [] 0 167 at)
     ∙ set_at rest 0x1f [] 0x9f 167 at
-finished-by rest (suc n) whole =
+finished_by rest (suc n) whole =
     let front : List ℕ = rest ++ (0x1f ∷ replicate n 0) in
     let at : length front ≡ 167 = length-append rest (0x1f ∷ replicate n 0) ∙ ap (λ k. length rest + suc k) (length-replicate n 0) ∙ omega arith in
     let zeros : 0 ∷ replicate n 0 ≡ replicate n 0 ++ 0 ∷ [] = ap (λ k. replicate k 0) (sym (add-one n)) ∙ sym (replicate_more n 0) in
@@ -38,17 +38,17 @@ finished-by rest (suc n) whole =
     ∙ ap (λ v. set (front ++ 0 ∷ []) 167 (bit_xor v 0x80)) (get_or_at front 0 [] 0 167 at)
     ∙ set_at front 0 [] 0x80 167 at
     ∙ append_assoc rest (0x1f ∷ replicate n 0) (0x80 ∷ [])
-    ∙ ap (λ p. rest ++ p) (sym (padding-of-two n))
+    ∙ ap (λ p. rest ++ p) (sym (padding_of_two n))
 
 -- what is left of a block of zeros after the rest
-pub zeros-left : (used : ℕ) → drop {A = ℕ} (used - 0) (replicate 168 0) ≡ replicate (rate - used) 0
-zeros-left used = let all : used - 0 ≡ used = omega arith in ap (λ k. drop {A = ℕ} k (replicate 168 0)) all ∙ drop-replicate used 168 0
+pub zeros_left : (used : ℕ) → drop {A = ℕ} (used - 0) (replicate 168 0) ≡ replicate (rate - used) 0
+zeros_left used = let all : used - 0 ≡ used = omega arith in ap (λ k. drop {A = ℕ} k (replicate 168 0)) all ∙ drop-replicate used 168 0
 
 -- the rest copied over the front of a block of zeros
-pub finished-is : (rest copied zeros : List ℕ) → length rest < rate → copied ≡ rest → zeros ≡ replicate (rate - length rest) 0 → finished (copied ++ zeros) (length rest) ≡ rest ++ padding (rate - length rest)
-finished-is rest copied zeros below is are =
+pub finished_is : (rest copied zeros : List ℕ) → length rest < rate → copied ≡ rest → zeros ≡ replicate (rate - length rest) 0 → finished (copied ++ zeros) (length rest) ≡ rest ++ padding (rate - length rest)
+finished_is rest copied zeros below is are =
     let lacking : rate - length rest ≡ suc (167 - length rest) = omega arith in
     ap (λ b. finished (b ++ zeros) (length rest)) is
     ∙ ap (λ z. finished (rest ++ z) (length rest)) (are ∙ ap (λ k. replicate k 0) lacking)
-    ∙ finished-by rest (167 - length rest) (omega arith)
+    ∙ finished_by rest (167 - length rest) (omega arith)
     ∙ ap (λ k. rest ++ padding k) (sym lacking)

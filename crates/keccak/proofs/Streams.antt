@@ -4,104 +4,104 @@ use Rattle.std.proofs.lemmas.List.FromFn.{length-map-range_with_len}
 use Rattle.std.proofs.lemmas.List.{append-nil, get_or_append_left, get_or-append_right, get_or-take, ext_get_or, length-take-le}
 use Rattle.std.proofs.lemmas.Bool.{cases_lt}
 use Rattle.keccak.specs.Laws.{permuted}
-use Rattle.keccak.specs.Permutation.{keccak-f}
-use Rattle.keccak.specs.Sponge.{absorbed, output-byte, output-block, squeezed, shake128}
+use Rattle.keccak.specs.Permutation.{keccak_f}
+use Rattle.keccak.specs.Sponge.{absorbed, output_byte, output_block, squeezed, shake128}
 
-pub length-output-block : (s : List ℕ) → length (output-block s) ≡ 168
-unfolding output-block
-length-output-block s = length-map-range_with_len (output-byte s) 0 168
+pub length_output_block : (s : List ℕ) → length (output_block s) ≡ 168
+unfolding output_block
+length_output_block s = length-map-range_with_len (output_byte s) 0 168
 
-pub permuted-none : (s : List ℕ) → permuted 0 s ≡ s
+pub permuted_none : (s : List ℕ) → permuted 0 s ≡ s
 unfolding permuted
-permuted-none s = refl
+permuted_none s = refl
 
-permuted-suc : (n : ℕ) (s : List ℕ) → permuted (suc n) s ≡ keccak-f (permuted n s)
+permuted_suc : (n : ℕ) (s : List ℕ) → permuted (suc n) s ≡ keccak_f (permuted n s)
 unfolding permuted
-permuted-suc n s = refl
+permuted_suc n s = refl
 
-pub permuted-more : (n : ℕ) (s : List ℕ) → permuted (n + 1) s ≡ keccak-f (permuted n s)
-permuted-more n s = ap (λ k. permuted k s) (add-one n) ∙ permuted-suc n s
+pub permuted_more : (n : ℕ) (s : List ℕ) → permuted (n + 1) s ≡ keccak_f (permuted n s)
+permuted_more n s = ap (λ k. permuted k s) (add-one n) ∙ permuted_suc n s
 
 -- the first permutation instead of the last
-permuted-first : (n : ℕ) (s : List ℕ) → permuted n (keccak-f s) ≡ keccak-f (permuted n s)
-permuted-first zero s = permuted-none (keccak-f s) ∙ ap keccak-f (sym (permuted-none s))
-permuted-first (suc n) s = permuted-suc n (keccak-f s) ∙ ap keccak-f (permuted-first n s ∙ sym (permuted-suc n s))
+permuted_first : (n : ℕ) (s : List ℕ) → permuted n (keccak_f s) ≡ keccak_f (permuted n s)
+permuted_first zero s = permuted_none (keccak_f s) ∙ ap keccak_f (sym (permuted_none s))
+permuted_first (suc n) s = permuted_suc n (keccak_f s) ∙ ap keccak_f (permuted_first n s ∙ sym (permuted_suc n s))
 
-squeezed-none : (s : List ℕ) → squeezed zero s ≡ []
+squeezed_none : (s : List ℕ) → squeezed zero s ≡ []
 unfolding squeezed
-squeezed-none s = refl
+squeezed_none s = refl
 
-squeezed-suc : (n : ℕ) (s : List ℕ) → squeezed (suc n) s ≡ output-block s ++ squeezed n (keccak-f s)
+squeezed_suc : (n : ℕ) (s : List ℕ) → squeezed (suc n) s ≡ output_block s ++ squeezed n (keccak_f s)
 unfolding squeezed
-squeezed-suc n s = refl
+squeezed_suc n s = refl
 
-pub length-squeezed : (n : ℕ) (s : List ℕ) → length (squeezed n s) ≡ 168 * n
-length-squeezed zero s = ap length (squeezed-none s)
-length-squeezed (suc n) s =
-    ap length (squeezed-suc n s) ∙ length-append (output-block s) (squeezed n (keccak-f s))
-    ∙ omega (arith, length-output-block s, length-squeezed n (keccak-f s))
+pub length_squeezed : (n : ℕ) (s : List ℕ) → length (squeezed n s) ≡ 168 * n
+length_squeezed zero s = ap length (squeezed_none s)
+length_squeezed (suc n) s =
+    ap length (squeezed_suc n s) ∙ length-append (output_block s) (squeezed n (keccak_f s))
+    ∙ omega (arith, length_output_block s, length_squeezed n (keccak_f s))
 
 -- byte k of the output from the state s on
-abbrev pub stream-byte : List ℕ → ℕ → ℕ
-stream-byte s k = get_or (output-block (permuted (k / 168) s)) (k % 168) 0
+abbrev pub stream_byte : List ℕ → ℕ → ℕ
+stream_byte s k = get_or (output_block (permuted (k / 168) s)) (k % 168) 0
 
-pub stream-byte-at : (s : List ℕ) (n j : ℕ) → j < 168 → stream-byte s (168 * n + j) ≡ get_or (output-block (permuted n s)) j 0
-stream-byte-at s n j below =
+pub stream_byte_at : (s : List ℕ) (n j : ℕ) → j < 168 → stream_byte s (168 * n + j) ≡ get_or (output_block (permuted n s)) j 0
+stream_byte_at s n j below =
     let block : (168 * n + j) / 168 ≡ n = omega arith in
     let place : (168 * n + j) % 168 ≡ j = omega arith in
-    ap (λ b. get_or (output-block (permuted b s)) ((168 * n + j) % 168) 0) block ∙ ap (λ p. get_or (output-block (permuted n s)) p 0) place
+    ap (λ b. get_or (output_block (permuted b s)) ((168 * n + j) % 168) 0) block ∙ ap (λ p. get_or (output_block (permuted n s)) p 0) place
 
-pub getD-squeezed : (n k : ℕ) (s : List ℕ) → k < 168 * n → get_or (squeezed n s) k 0 ≡ stream-byte s k
-getD-squeezed zero k s below = absurd (omega arith)
-getD-squeezed (suc n) k s below =
-    ap (λ l. get_or l k 0) (squeezed-suc n s)
+pub getD_squeezed : (n k : ℕ) (s : List ℕ) → k < 168 * n → get_or (squeezed n s) k 0 ≡ stream_byte s k
+getD_squeezed zero k s below = absurd (omega arith)
+getD_squeezed (suc n) k s below =
+    ap (λ l. get_or l k 0) (squeezed_suc n s)
     ∙ elim (cases_lt k 168) [
       | inl first ↦
           let block : k / 168 ≡ 0 = omega arith in
           let place : k % 168 ≡ k = omega arith in
-          get_or_append_left (output-block s) (squeezed n (keccak-f s)) 0 k (omega (arith, length-output-block s))
-          ∙ sym (ap (λ b. get_or (output-block (permuted b s)) (k % 168) 0) block ∙ ap (λ p. get_or (output-block (permuted 0 s)) p 0) place ∙ ap (λ t. get_or (output-block t) k 0) (permuted-none s))
+          get_or_append_left (output_block s) (squeezed n (keccak_f s)) 0 k (omega (arith, length_output_block s))
+          ∙ sym (ap (λ b. get_or (output_block (permuted b s)) (k % 168) 0) block ∙ ap (λ p. get_or (output_block (permuted 0 s)) p 0) place ∙ ap (λ t. get_or (output_block t) k 0) (permuted_none s))
       | inr later ↦
           let block : suc ((k - 168) / 168) ≡ k / 168 = omega arith in
           let place : (k - 168) % 168 ≡ k % 168 = omega arith in
-          get_or-append_right (output-block s) (squeezed n (keccak-f s)) 168 k 0 (length-output-block s) later
-          ∙ getD-squeezed n (k - 168) (keccak-f s) (omega arith)
-          ∙ ap (λ t. get_or (output-block t) ((k - 168) % 168) 0) (permuted-first ((k - 168) / 168) s ∙ sym (permuted-suc ((k - 168) / 168) s))
-          ∙ ap (λ b. get_or (output-block (permuted b s)) ((k - 168) % 168) 0) block
-          ∙ ap (λ p. get_or (output-block (permuted (k / 168) s)) p 0) place
+          get_or-append_right (output_block s) (squeezed n (keccak_f s)) 168 k 0 (length_output_block s) later
+          ∙ getD_squeezed n (k - 168) (keccak_f s) (omega arith)
+          ∙ ap (λ t. get_or (output_block t) ((k - 168) % 168) 0) (permuted_first ((k - 168) / 168) s ∙ sym (permuted_suc ((k - 168) / 168) s))
+          ∙ ap (λ b. get_or (output_block (permuted b s)) ((k - 168) % 168) 0) block
+          ∙ ap (λ p. get_or (output_block (permuted (k / 168) s)) p 0) place
     ]
 
 -- one block more at the end
-squeezed-last : (n : ℕ) (s : List ℕ) → squeezed (suc n) s ≡ squeezed n s ++ output-block (permuted n s)
-squeezed-last zero s =
-    squeezed-suc zero s ∙ ap (λ l. output-block s ++ l) (squeezed-none (keccak-f s)) ∙ append-nil (output-block s)
-    ∙ ap output-block (sym (permuted-none s)) ∙ ap (λ l. l ++ output-block (permuted 0 s)) (sym (squeezed-none s))
-squeezed-last (suc n) s =
-    squeezed-suc (suc n) s ∙ ap (λ l. output-block s ++ l) (squeezed-last n (keccak-f s))
-    ∙ sym (append_assoc (output-block s) (squeezed n (keccak-f s)) (output-block (permuted n (keccak-f s))))
-    ∙ ap (λ l. l ++ output-block (permuted n (keccak-f s))) (sym (squeezed-suc n s))
-    ∙ ap (λ t. squeezed (suc n) s ++ output-block t) (permuted-first n s ∙ sym (permuted-suc n s))
+squeezed_last : (n : ℕ) (s : List ℕ) → squeezed (suc n) s ≡ squeezed n s ++ output_block (permuted n s)
+squeezed_last zero s =
+    squeezed_suc zero s ∙ ap (λ l. output_block s ++ l) (squeezed_none (keccak_f s)) ∙ append-nil (output_block s)
+    ∙ ap output_block (sym (permuted_none s)) ∙ ap (λ l. l ++ output_block (permuted 0 s)) (sym (squeezed_none s))
+squeezed_last (suc n) s =
+    squeezed_suc (suc n) s ∙ ap (λ l. output_block s ++ l) (squeezed_last n (keccak_f s))
+    ∙ sym (append_assoc (output_block s) (squeezed n (keccak_f s)) (output_block (permuted n (keccak_f s))))
+    ∙ ap (λ l. l ++ output_block (permuted n (keccak_f s))) (sym (squeezed_suc n s))
+    ∙ ap (λ t. squeezed (suc n) s ++ output_block t) (permuted_first n s ∙ sym (permuted_suc n s))
 
-pub squeezed-more : (n : ℕ) (s : List ℕ) → squeezed (n + 1) s ≡ squeezed n s ++ output-block (permuted n s)
-squeezed-more n s = ap (λ k. squeezed k s) (add-one n) ∙ squeezed-last n s
+pub squeezed_more : (n : ℕ) (s : List ℕ) → squeezed (n + 1) s ≡ squeezed n s ++ output_block (permuted n s)
+squeezed_more n s = ap (λ k. squeezed k s) (add-one n) ∙ squeezed_last n s
 
-pub length-shake128 : (m : List ℕ) (d : ℕ) → length (shake128 m d) ≡ d
+pub length_shake128 : (m : List ℕ) (d : ℕ) → length (shake128 m d) ≡ d
 unfolding shake128
-length-shake128 m d = length-take-le d (squeezed (d / 168 + 1) (absorbed m)) (omega (arith, length-squeezed (d / 168 + 1) (absorbed m)))
+length_shake128 m d = length-take-le d (squeezed (d / 168 + 1) (absorbed m)) (omega (arith, length_squeezed (d / 168 + 1) (absorbed m)))
 
-pub getD-shake128 : (m : List ℕ) (d k : ℕ) → k < d → get_or (shake128 m d) k 0 ≡ stream-byte (absorbed m) k
+pub getD_shake128 : (m : List ℕ) (d k : ℕ) → k < d → get_or (shake128 m d) k 0 ≡ stream_byte (absorbed m) k
 unfolding shake128
-getD-shake128 m d k below = get_or-take d (squeezed (d / 168 + 1) (absorbed m)) k 0 below ∙ getD-squeezed (d / 168 + 1) k (absorbed m) (omega arith)
+getD_shake128 m d k below = get_or-take d (squeezed (d / 168 + 1) (absorbed m)) k 0 below ∙ getD_squeezed (d / 168 + 1) k (absorbed m) (omega arith)
 
 -- a list of d bytes that are those of the output is the output
-pub shake128-from-bytes : (m out : List ℕ) (d : ℕ) → length out ≡ d → ((k : ℕ) → k < d → get_or out k 0 ≡ stream-byte (absorbed m) k) → out ≡ shake128 m d
-shake128-from-bytes m out d long all =
-    ext_get_or 0 out (shake128 m d) (long ∙ sym (length-shake128 m d)) (λ k h. all k (omega arith) ∙ sym (getD-shake128 m d k (omega arith)))
+pub shake128_from_bytes : (m out : List ℕ) (d : ℕ) → length out ≡ d → ((k : ℕ) → k < d → get_or out k 0 ≡ stream_byte (absorbed m) k) → out ≡ shake128 m d
+shake128_from_bytes m out d long all =
+    ext_get_or 0 out (shake128 m d) (long ∙ sym (length_shake128 m d)) (λ k h. all k (omega arith) ∙ sym (getD_shake128 m d k (omega arith)))
 
-pub take-shake128 : (m : List ℕ) (d e : ℕ) → d ≤ e → take d (shake128 m e) ≡ shake128 m d
-take-shake128 m d e below =
-    shake128-from-bytes m (take d (shake128 m e)) d (length-take-le d (shake128 m e) (omega (arith, length-shake128 m e)))
-    (λ k h. get_or-take d (shake128 m e) k 0 h ∙ getD-shake128 m e k (omega arith))
+pub take_shake128 : (m : List ℕ) (d e : ℕ) → d ≤ e → take d (shake128 m e) ≡ shake128 m d
+take_shake128 m d e below =
+    shake128_from_bytes m (take d (shake128 m e)) d (length-take-le d (shake128 m e) (omega (arith, length_shake128 m e)))
+    (λ k h. get_or-take d (shake128 m e) k 0 h ∙ getD_shake128 m e k (omega arith))
 
-pub shake128-whole : (m : List ℕ) (n : ℕ) → shake128 m (168 * n) ≡ squeezed n (absorbed m)
-shake128-whole m n = sym (shake128-from-bytes m (squeezed n (absorbed m)) (168 * n) (length-squeezed n (absorbed m)) (λ k h. getD-squeezed n k (absorbed m) h))
+pub shake128_whole : (m : List ℕ) (n : ℕ) → shake128 m (168 * n) ≡ squeezed n (absorbed m)
+shake128_whole m n = sym (shake128_from_bytes m (squeezed n (absorbed m)) (168 * n) (length_squeezed n (absorbed m)) (λ k h. getD_squeezed n k (absorbed m) h))

@@ -4,24 +4,24 @@ use borrow.Rule.Slice.PartMut.{put_mid, post_of}
 use Rattle.std.proofs.lemmas.List.{get_or_append_left, get_or-append_right, get_or-take, length-take-le}
 use Rattle.std.proofs.lemmas.Bool.{cases_lt}
 use Rattle.keccak.specs.Laws.{permuted}
-use Rattle.keccak.specs.Sponge.{output-block}
-use Rattle.keccak.proofs.Streams.{stream-byte, stream-byte-at, length-output-block}
+use Rattle.keccak.specs.Sponge.{output_block}
+use Rattle.keccak.proofs.Streams.{stream_byte, stream_byte_at, length_output_block}
 
 -- what the buffer has below n is the output from the state s on
 abbrev pub Written : List ℕ → List ℕ → ℕ → Type 0
-Written s out n = (k : ℕ) → k < n → k < length out → get_or out k 0 ≡ stream-byte s k
+Written s out n = (k : ℕ) → k < n → k < length out → get_or out k 0 ≡ stream_byte s k
 
-module _ (s out part : List ℕ) (i size : ℕ) (starts : 168 * i ≤ length out) (is-size : size ≡ min 168 (length out - 168 * i)) (is-part : part ≡ take (size - 0) (output-block (permuted i s))) where
+module _ (s out part : List ℕ) (i size : ℕ) (starts : 168 * i ≤ length out) (is-size : size ≡ min 168 (length out - 168 * i)) (is-part : part ≡ take (size - 0) (output_block (permuted i s))) where
   length_part : length part ≡ size
   length_part =
-      ap length is-part ∙ length-take (size - 0) (output-block (permuted i s)) ∙ omega (arith, length-output-block (permuted i s))
+      ap length is-part ∙ length-take (size - 0) (output_block (permuted i s)) ∙ omega (arith, length_output_block (permuted i s))
 
-  get_d_part : (j : ℕ) → j < size → get_or part j 0 ≡ stream-byte s (168 * i + j)
+  get_d_part : (j : ℕ) → j < size → get_or part j 0 ≡ stream_byte s (168 * i + j)
   get_d_part j below =
-      ap (λ l. get_or l j 0) is-part ∙ get_or-take (size - 0) (output-block (permuted i s)) j 0 (omega arith) ∙ sym (stream-byte-at s i j (omega arith))
+      ap (λ l. get_or l j 0) is-part ∙ get_or-take (size - 0) (output_block (permuted i s)) j 0 (omega arith) ∙ sym (stream_byte_at s i j (omega arith))
 
-  pub written-more : Written s out (168 * i) → Written s (put_mid (168 * i) (168 * i + size - 168 * i) out part) (168 * (i + 1))
-  written-more before k below within =
+  pub written_more : Written s out (168 * i) → Written s (put_mid (168 * i) (168 * i + size - 168 * i) out part) (168 * (i + 1))
+  written_more before k below within =
       let front : List ℕ = take (168 * i) out in
       let after : List ℕ = post_of (168 * i) (168 * i + size - 168 * i) out in
       let long : length front ≡ 168 * i = length-take-le (168 * i) out starts in
@@ -35,5 +35,5 @@ module _ (s out part : List ℕ) (i size : ℕ) (starts : 168 * i ≤ length out
             get_or-append_right front (part ++ after) (168 * i) k 0 long here
             ∙ get_or_append_left part after 0 (k - 168 * i) (omega (arith, length_part))
             ∙ get_d_part (k - 168 * i) (omega arith)
-            ∙ ap (stream-byte s) place
+            ∙ ap (stream_byte s) place
       ]

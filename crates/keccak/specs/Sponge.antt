@@ -1,7 +1,7 @@
 -- SHAKE128 of FIPS 202 for strings of bytes: the sponge of section 4 over Keccak-f[1600] at the rate of 168 bytes, with the suffix 1111 and the padding pad10*1 in the bytes of appendix B.2.
 use Rattle.std.specs.Prelude.{ℕ, zero, suc, ◌+◌, ◌-◌, ◌*◌, ◌/◌, ◌%◌, ◌^◌, cond, List, [], ◌∷◌, ◌++◌, map, length, take, drop, replicate, fold, ◌==◌, bit_xor, slice_index}
 use Rattle.std.specs.List.{range_with_len}
-use Rattle.keccak.specs.Permutation.{keccak-f}
+use Rattle.keccak.specs.Permutation.{keccak_f}
 use Rattle.keccak.specs.declared.sponge.Shake128.{Shake128}
 
 abbrev pub rate : ℕ
@@ -24,37 +24,37 @@ little_endian [] = 0
 little_endian (b ∷ bs) = b + 256 * little_endian bs
 
 -- lane i of a block, of which each lane has 8 bytes; the lanes of the capacity are 0
-abbrev pub block-lane : List ℕ → ℕ → ℕ
-block-lane b i = little_endian (map (λ j. slice_index b (8 * i + j)) (range_with_len 0 8))
+abbrev pub block_lane : List ℕ → ℕ → ℕ
+block_lane b i = little_endian (map (λ j. slice_index b (8 * i + j)) (range_with_len 0 8))
 
 -- the block added to the state
 unfoldable pub added : List ℕ → List ℕ → List ℕ
-added s b = map (λ i. bit_xor (slice_index s i) (block-lane b i)) (range_with_len 0 25)
+added s b = map (λ i. bit_xor (slice_index s i) (block_lane b i)) (range_with_len 0 25)
 
-unfoldable pub absorbed-block : List ℕ → List ℕ → List ℕ
-absorbed-block s b = keccak-f (added s b)
+unfoldable pub absorbed_block : List ℕ → List ℕ → List ℕ
+absorbed_block s b = keccak_f (added s b)
 
 -- the state after a message
 unfoldable pub absorbed : List ℕ → List ℕ
-absorbed m = fold absorbed-block (replicate 25 0) (blocks (padded m))
+absorbed m = fold absorbed_block (replicate 25 0) (blocks (padded m))
 
 -- byte k of a state, of which each lane has 8 bytes, the low byte first
-abbrev pub output-byte : List ℕ → ℕ → ℕ
-output-byte s k = slice_index s (k / 8) / 256 ^ (k % 8) % 256
+abbrev pub output_byte : List ℕ → ℕ → ℕ
+output_byte s k = slice_index s (k / 8) / 256 ^ (k % 8) % 256
 
 -- the first 168 bytes of a state
-unfoldable pub output-block : List ℕ → List ℕ
-output-block s = map (output-byte s) (range_with_len 0 rate)
+unfoldable pub output_block : List ℕ → List ℕ
+output_block s = map (output_byte s) (range_with_len 0 rate)
 
 -- n blocks of output from the state s on
 unfoldable pub squeezed : ℕ → List ℕ → List ℕ
 squeezed zero s = []
-squeezed (suc n) s = output-block s ++ squeezed n (keccak-f s)
+squeezed (suc n) s = output_block s ++ squeezed n (keccak_f s)
 
 -- the first d bytes of SHAKE128 of m
 unfoldable pub shake128 : List ℕ → ℕ → List ℕ
 shake128 m d = take d (squeezed (d / rate + 1) (absorbed m))
 
 -- The state that the next block of output is read from. A sponge keeps the state from before that permutation, so that a block that is never read costs none.
-abbrev pub next-state : Shake128 → List ℕ
-next-state h = keccak-f h.lanes
+abbrev pub next_state : Shake128 → List ℕ
+next_state h = keccak_f h.lanes

@@ -1,4 +1,6 @@
 // SHAKE128 of FIPS 202, over the permutation Keccak-f[1600].
+#![tactic(auto)]
+
 mod output;
 mod permutation;
 mod sponge;

@@ -1,12 +1,12 @@
 // SHAKE128 in one call.
 ghost use Rattle.std.specs.Prelude.{◌≡◌, length};
-ghost use Rattle.keccak.specs.Sponge.{shake128 as shake128-of};
+ghost use Rattle.keccak.specs.Sponge.{shake128 as shake128_of};
 
 use crate::sponge::{RATE, Shake128};
 
 // Fills `output` with the first bytes of SHAKE128 of `message`.
 pub fn shake128(message: &[u8], output: &mut [u8])
-    ensures { output.new ≡ shake128-of message.now (length output.old) }
+    ensures { output.new ≡ shake128_of message.now (length output.old) }
 {
     let mut sponge = Shake128::absorb(message);
     let mut block = [0; RATE];

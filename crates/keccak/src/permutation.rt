@@ -1,7 +1,7 @@
 // The permutation Keccak-f[1600] of FIPS 202. Lane (x, y) of a state is number x + 5 * y.
 ghost use Rattle.std.specs.Prelude.{◌≡◌, ◌<◌, map};
 ghost use Rattle.std.specs.List.{range_with_len};
-ghost use Rattle.keccak.specs.Permutation.{parity, effect, theta as theta-of, rho as rho-of, pi as pi-of, chi as chi-of, iota as iota-of, keccak-f};
+ghost use Rattle.keccak.specs.Permutation.{parity, effect, theta as theta_of, rho as rho_of, pi as pi_of, chi as chi_of, iota as iota_of, keccak_f};
 
 const ROUNDS: usize = 24;
 
@@ -50,7 +50,7 @@ fn effects(lanes: [u64; 25]) -> [u64; 5]
 
 // Adds to each lane the parities of two columns beside it.
 fn theta(lanes: [u64; 25]) -> [u64; 25]
-    ensures { result ≡ theta-of lanes }
+    ensures { result ≡ theta_of lanes }
 {
     let added = effects(lanes);
     let mut out = [0; 25];
@@ -64,7 +64,7 @@ fn theta(lanes: [u64; 25]) -> [u64; 25]
 
 // Rotates each lane by the offset of its place.
 fn rho(lanes: [u64; 25]) -> [u64; 25]
-    ensures { result ≡ rho-of lanes }
+    ensures { result ≡ rho_of lanes }
 {
     let mut out = [0; 25];
     for y in 0..5 {
@@ -77,7 +77,7 @@ fn rho(lanes: [u64; 25]) -> [u64; 25]
 
 // Moves the lanes to other places.
 fn pi(lanes: [u64; 25]) -> [u64; 25]
-    ensures { result ≡ pi-of lanes }
+    ensures { result ≡ pi_of lanes }
 {
     let mut out = [0; 25];
     for y in 0..5 {
@@ -90,7 +90,7 @@ fn pi(lanes: [u64; 25]) -> [u64; 25]
 
 // Adds to each lane the product of the next two of its row, the first of them complemented.
 fn chi(lanes: [u64; 25]) -> [u64; 25]
-    ensures { result ≡ chi-of lanes }
+    ensures { result ≡ chi_of lanes }
 {
     let mut out = [0; 25];
     for y in 0..5 {
@@ -105,14 +105,14 @@ fn chi(lanes: [u64; 25]) -> [u64; 25]
 // Adds the constant of the round to lane (0, 0).
 fn iota(mut lanes: [u64; 25], round: usize) -> [u64; 25]
     requires { round < 24 }
-    ensures { result ≡ iota-of round lanes }
+    ensures { result ≡ iota_of round lanes }
 {
     lanes[0] ^= ROUND_CONSTANTS[round];
     lanes
 }
 
 pub(crate) fn keccak_f(lanes: &mut [u64; 25])
-    ensures { lanes.new ≡ keccak-f lanes.old }
+    ensures { lanes.new ≡ keccak_f lanes.old }
 {
     let mut state = *lanes;
     for round in 0..ROUNDS {

@@ -1,7 +1,7 @@
 // The sponge of FIPS 202 over Keccak-f[1600] with 168 bytes to a block, as SHAKE128 uses it.
 ghost use Rattle.std.specs.Prelude.{◌≡◌, ◌+◌, ◌-◌, ◌*◌, ◌<◌, ◌≤◌, ◌++◌, length};
-ghost use Rattle.keccak.specs.Permutation.{keccak-f};
-ghost use Rattle.keccak.specs.Sponge.{rate, padding, block-lane, added, absorbed, output-block, next-state};
+ghost use Rattle.keccak.specs.Permutation.{keccak_f};
+ghost use Rattle.keccak.specs.Sponge.{rate, padding, block_lane, added, absorbed, output_block, next_state};
 
 use crate::permutation::keccak_f;
 
@@ -17,7 +17,7 @@ pub struct Shake128 {
 impl Shake128 {
     // The sponge after the whole message, padded as SHAKE128 has it.
     pub fn absorb(message: &[u8]) -> Shake128
-        ensures { next-state result ≡ absorbed message.now }
+        ensures { next_state result ≡ absorbed message.now }
     {
         let mut lanes = [0; 25];
         let whole = message.len() / RATE;
@@ -32,8 +32,8 @@ impl Shake128 {
 
     // Writes the next 168 bytes of the output into `block`.
     pub fn squeeze(&mut self, block: &mut [u8; 168])
-        ensures output { block.new ≡ output-block (next-state self.old) }
-        ensures state { next-state self.new ≡ keccak-f (next-state self.old) }
+        ensures output { block.new ≡ output_block (next_state self.old) }
+        ensures state { next_state self.new ≡ keccak_f (next_state self.old) }
     {
         keccak_f(&mut self.lanes);
         write_block(&self.lanes, block);
@@ -43,7 +43,7 @@ impl Shake128 {
 // Lane i of a block: eight bytes, the low byte first.
 fn read_lane(block: &[u8], i: usize) -> u64
     requires { 8 * i + 8 ≤ length block.now }
-    ensures { result ≡ block-lane block.now i }
+    ensures { result ≡ block_lane block.now i }
 {
     let at = 8 * i;
     u64::from_le_bytes([
@@ -83,7 +83,7 @@ fn last_block(rest: &[u8]) -> [u8; 168]
 
 // Writes the first 168 bytes of a state.
 fn write_block(lanes: &[u64; 25], block: &mut [u8; 168])
-    ensures { block.new ≡ output-block lanes.now }
+    ensures { block.new ≡ output_block lanes.now }
 {
     for i in 0..RATE / 8 {
         let bytes = lanes[i].to_le_bytes();

@@ -2,53 +2,53 @@
 use Rattle.std.proofs.Common.{◌≡◌, ℕ, ◌+◌, ◌<◌, ◌≤◌, true, false, eqb, ltb, List, length, get_or, Ok, sym, refl, subst, inl, inr, arith}
 use Rattle.std.proofs.lemmas.List.Sums.{prefix_len-le-length}
 use Rattle.std.proofs.lemmas.Bool.{cond_both, eqb-true, eqb-false, ltb-true, ltb-false}
-use Rattle.ring.proofs.Fronts.{front-passes, front_ends}
-use Rattle.multiplier.specs.Multipliers.{AllBelow, Fitting, FirstNotBelow, MultiplyMeans, front_below, multiply-answer}
+use Rattle.ring.proofs.Fronts.{front_passes, front_ends}
+use Rattle.multiplier.specs.Multipliers.{AllBelow, Fitting, FirstNotBelow, MultiplyMeans, front_below, multiply_answer}
 
-all-below : (q : ℕ) (xs : List ℕ) → length xs ≤ front_below q xs → AllBelow q xs
-all-below q xs far k h = ltb-true _ _ (front-passes (λ x. ltb x q) 0 xs k (omega arith))
+all_below : (q : ℕ) (xs : List ℕ) → length xs ≤ front_below q xs → AllBelow q xs
+all_below q xs far k h = ltb-true _ _ (front_passes (λ x. ltb x q) 0 xs k (omega arith))
 
-first-not-below : (q : ℕ) (xs : List ℕ) → front_below q xs < length xs → FirstNotBelow q xs (front_below q xs)
-first-not-below q xs h = record {
+first_not_below : (q : ℕ) (xs : List ℕ) → front_below q xs < length xs → FirstNotBelow q xs (front_below q xs)
+first_not_below q xs h = record {
   inside = h;
-  before = λ k lt. ltb-true _ _ (front-passes (λ x. ltb x q) 0 xs k lt);
+  before = λ k lt. ltb-true _ _ (front_passes (λ x. ltb x q) 0 xs k lt);
   here = ltb-false _ _ (front_ends (λ x. ltb x q) 0 xs h);
 }
 
-pub multiply-means : (n q need : ℕ) (left right : List ℕ) (scratch output : ℕ) → MultiplyMeans n q need left right scratch output (multiply-answer n q need left right scratch output)
-multiply-means n q need left right scratch output =
+pub multiply_means : (n q need : ℕ) (left right : List ℕ) (scratch output : ℕ) → MultiplyMeans n q need left right scratch output (multiply_answer n q need left right scratch output)
+multiply_means n q need left right scratch output =
     let Means = MultiplyMeans n q need left right scratch output in
     cond_both (eqb (length left) n) _ _ Means
     (λ left_is.
-    let left-long : length left ≡ n = eqb-true _ _ left_is in
+    let left_long : length left ≡ n = eqb-true _ _ left_is in
     cond_both (eqb (length right) n) _ _ Means
     (λ right_is.
-    let right-long : length right ≡ n = eqb-true _ _ right_is in
+    let right_long : length right ≡ n = eqb-true _ _ right_is in
     cond_both (ltb scratch need) _ _ Means
-    (λ short. inr (left-long, inr (right-long, inl (refl, ltb-true _ _ short))))
+    (λ short. inr (left_long, inr (right_long, inl (refl, ltb-true _ _ short))))
     (λ enough.
-    let scratch-long : need ≤ scratch = ltb-false _ _ enough in
+    let scratch_long : need ≤ scratch = ltb-false _ _ enough in
     cond_both (eqb output n) _ _ Means
     (λ output-is.
     cond_both (ltb (front_below q left) n) _ _ Means
-    (λ stops. inl (first-not-below q left (omega (arith, ltb-true _ _ stops))))
+    (λ stops. inl (first_not_below q left (omega (arith, ltb-true _ _ stops))))
     (λ reaches.
-    let left_below = all-below q left (omega (arith, ltb-false _ _ reaches)) in
+    let left_below = all_below q left (omega (arith, ltb-false _ _ reaches)) in
     cond_both (ltb (front_below q right) n) _ _ Means
-    (λ stops. inr (left_below, (front_below q right, refl, first-not-below q right (omega (arith, ltb-true _ _ stops)))))
+    (λ stops. inr (left_below, (front_below q right, refl, first_not_below q right (omega (arith, ltb-true _ _ stops)))))
     (λ far. record {
-      left-long = left-long;
-      right-long = right-long;
-      scratch-long = scratch-long;
-      output-long = eqb-true _ _ output-is;
+      left_long = left_long;
+      right_long = right_long;
+      scratch_long = scratch_long;
+      output_long = eqb-true _ _ output-is;
       left_below = left_below;
-      right-below = all-below q right (omega (arith, ltb-false _ _ far));
+      right_below = all_below q right (omega (arith, ltb-false _ _ far));
     })))
-    (λ other. inr (left-long, inr (right-long, inr (scratch-long, refl, eqb-false _ _ other))))))
-    (λ other. inr (left-long, inl (refl, eqb-false _ _ other))))
+    (λ other. inr (left_long, inr (right_long, inr (scratch_long, refl, eqb-false _ _ other))))))
+    (λ other. inr (left_long, inl (refl, eqb-false _ _ other))))
     (λ other. inl (refl, eqb-false _ _ other))
 
 -- what is known where a multiplication is accepted
-pub accepted : (n q need : ℕ) (left right : List ℕ) (scratch output : ℕ) → Ok tt ≡ multiply-answer n q need left right scratch output → Fitting n q need left right scratch output
+pub accepted : (n q need : ℕ) (left right : List ℕ) (scratch output : ℕ) → Ok tt ≡ multiply_answer n q need left right scratch output → Fitting n q need left right scratch output
 accepted n q need left right scratch output ok =
-    subst (MultiplyMeans n q need left right scratch output) (sym ok) (multiply-means n q need left right scratch output)
+    subst (MultiplyMeans n q need left right scratch output) (sym ok) (multiply_means n q need left right scratch output)

@@ -4,21 +4,21 @@ use Rattle.std.proofs.lemmas.Nat.{mod_below}
 use Rattle.std.proofs.lemmas.List.{ext_get_or, get_or-map, get_or_append_left, get_or-append_right, length-append, length-map}
 use Rattle.std.proofs.lemmas.Bool.{cases_lt}
 use Rattle.element.specs.Products.{product}
-use Rattle.element.proofs.Shapes.{length-product, getD-product}
-use Rattle.multiplier.specs.Multipliers.{AllBelow, multiply-answer}
-use Rattle.multiplier.specs.Sums.{Factors, Rows, negated, coefficient-mod, row-sum}
+use Rattle.element.proofs.Shapes.{length_product, getD_product}
+use Rattle.multiplier.specs.Multipliers.{AllBelow, multiply_answer}
+use Rattle.multiplier.specs.Sums.{Factors, Rows, negated, coefficient_mod, row_sum}
 use Rattle.multiplier.specs.declared.quotient.QuotientRing.{QuotientRing}
-use Rattle.multiplier.proofs.Coefficients.{row-sum-is-coefficient}
+use Rattle.multiplier.proofs.Coefficients.{row_sum_is_coefficient}
 use Rattle.multiplier.proofs.Refusals.{accepted}
 
-pub written : (n q : ℕ) (left right output : List ℕ) → length output ≡ n → ((k : ℕ) → k < n → get_or output k 0 ≡ coefficient-mod n q left right k) → output ≡ product n q left right
+pub written : (n q : ℕ) (left right output : List ℕ) → length output ≡ n → ((k : ℕ) → k < n → get_or output k 0 ≡ coefficient_mod n q left right k) → output ≡ product n q left right
 written n q left right output long each =
-    ext_get_or 0 output (product n q left right) (long ∙ sym (length-product n q left right))
-    (λ k h. each k (omega arith) ∙ sym (getD-product n q left right k 0 (omega arith)))
+    ext_get_or 0 output (product n q left right) (long ∙ sym (length_product n q left right))
+    (λ k h. each k (omega arith) ∙ sym (getD_product n q left right k 0 (omega arith)))
 
 -- a list negated modulo q, and the list
-words-below-q : (q : ℕ) (right : List ℕ) → 0 < q → AllBelow q right → AllBelow q (map (negated q) right ++ right)
-words-below-q q right some below k h =
+words_below_q : (q : ℕ) (right : List ℕ) → 0 < q → AllBelow q right → AllBelow q (map (negated q) right ++ right)
+words_below_q q right some below k h =
     ⊎_elim
     (λ (front : k < length right).
     rw (get_or_append_left (map (negated q) right) right 0 k (simp length-map front), get_or-map (negated q) right k 0 0 front) (mod_below _ q some))
@@ -35,25 +35,25 @@ module _ (q : ℕ) (left right : List ℕ) (f : Factors q left right) where
       record {
         short = f.short;
         long = long;
-        left_below = λ k h. omega (arith, f.left_below k h, f.q-small);
-        words-below = λ k h. omega (arith, subst (AllBelow q) (sym words_are) (words-below-q q right f.q-positive f.right-below) k h, f.q-small);
+        left_below = λ k h. omega (arith, f.left_below k h, f.q_small);
+        words_below = λ k h. omega (arith, subst (AllBelow q) (sym words_are) (words_below_q q right f.q_positive f.right_below) k h, f.q_small);
       }
 
   -- the row sums modulo q are the product
-  pub row-sums-are-product : (words result : List ℕ) → words ≡ map (negated q) right ++ right → length result ≡ length left → ((k : ℕ) → k < length left → get_or result k 0 ≡ row-sum left words (length left) k % q) → result ≡ product (length left) q left right
-  row-sums-are-product words result words_are long each =
+  pub row_sums_are_product : (words result : List ℕ) → words ≡ map (negated q) right ++ right → length result ≡ length left → ((k : ℕ) → k < length left → get_or result k 0 ≡ row_sum left words (length left) k % q) → result ≡ product (length left) q left right
+  row_sums_are_product words result words_are long each =
       written (length left) q left right result long
-      (λ k h. each k h ∙ ap (λ (ws : List ℕ). row-sum left ws (length left) k % q) words_are ∙ row-sum-is-coefficient q left right k f.q-positive f.long h f.right-below)
+      (λ k h. each k h ∙ ap (λ (ws : List ℕ). row_sum left ws (length left) k % q) words_are ∙ row_sum_is_coefficient q left right k f.q_positive f.long h f.right_below)
 
-module _ (ring : QuotientRing) (need : ℕ) (left right : List ℕ) (scratch output : ℕ) (ok : Ok tt ≡ multiply-answer ring.degree ring.modulus.q need left right scratch output) where
+module _ (ring : QuotientRing) (need : ℕ) (left right : List ℕ) (scratch output : ℕ) (ok : Ok tt ≡ multiply_answer ring.degree ring.modulus.q need left right scratch output) where
   pub factors : Factors ring.modulus.q left right
   factors =
       let fit = accepted ring.degree ring.modulus.q need left right scratch output ok in
       record {
-        short = omega (arith, fit.left-long, ring.most);
-        long = fit.right-long ∙ sym fit.left-long;
-        q-positive = omega (arith, ring.modulus.at_least);
-        q-small = ring.modulus.below;
+        short = omega (arith, fit.left_long, ring.most);
+        long = fit.right_long ∙ sym fit.left_long;
+        q_positive = omega (arith, ring.modulus.at_least);
+        q_small = ring.modulus.below;
         left_below = fit.left_below;
-        right-below = fit.right-below;
+        right_below = fit.right_below;
       }

@@ -14,11 +14,11 @@ IsDegree n = (m : ℕ) × (m ≤ 10) × (n ≡ 2 ^ m)
 pub record InRange (n q need : ℕ) : Type 0 where
   pub degree : IsDegree n
   pub modulus : IsModulus q
-  pub need-most : need ≤ 65536
+  pub need_most : need ≤ 65536
 
-abbrev pub ring-from : ℕ → ℕ → Option QuotientRing → Type 0
-ring-from n q (Some ring) = (ring.degree ≡ n) × (ring.modulus.q ≡ q) × IsDegree n × IsModulus q
-ring-from n q None = IsDegree n × IsModulus q → ⊥
+abbrev pub ring_from : ℕ → ℕ → Option QuotientRing → Type 0
+ring_from n q (Some ring) = (ring.degree ≡ n) × (ring.modulus.q ≡ q) × IsDegree n × IsModulus q
+ring_from n q None = IsDegree n × IsModulus q → ⊥
 
 -- how many come before the first that is not below q
 abbrev pub front_below : ℕ → List ℕ → ℕ
@@ -29,8 +29,8 @@ abbrev pub AllBelow : ℕ → List ℕ → Type 0
 AllBelow q xs = (k : ℕ) → k < length xs → slice_index xs k < q
 
 -- what is answered to two lists, and to scratch and an output of so many words
-abbrev pub multiply-answer : (n q need : ℕ) (left right : List ℕ) (scratch output : ℕ) → Result (Unit {0}) Fault
-multiply-answer n q need left right scratch output =
+abbrev pub multiply_answer : (n q need : ℕ) (left right : List ℕ) (scratch output : ℕ) → Result (Unit {0}) Fault
+multiply_answer n q need left right scratch output =
     cond (length left == n)
     (cond (length right == n)
     (cond (nat_lt scratch need)
@@ -47,12 +47,12 @@ multiply-answer n q need left right scratch output =
 
 -- the lists and buffers fit, and every number is below q
 pub record Fitting (n q need : ℕ) (left right : List ℕ) (scratch output : ℕ) : Type 0 where
-  pub left-long : length left ≡ n
-  pub right-long : length right ≡ n
-  pub scratch-long : need ≤ scratch
-  pub output-long : output ≡ n
+  pub left_long : length left ≡ n
+  pub right_long : length right ≡ n
+  pub scratch_long : need ≤ scratch
+  pub output_long : output ≡ n
   pub left_below : AllBelow q left
-  pub right-below : AllBelow q right
+  pub right_below : AllBelow q right
 
 -- i is the index of the first number that is not below q
 pub record FirstNotBelow (q : ℕ) (xs : List ℕ) (i : ℕ) : Type 0 where
@@ -80,4 +80,4 @@ MultiplyMeans n q need left right scratch output (Err (SourceSpent place)) = ⊥
 
 -- every two lists, and buffers of every length
 abbrev pub MultiplyRefusesTheFirst : Type 0
-MultiplyRefusesTheFirst = (n q need : ℕ) (left right : List ℕ) (scratch output : ℕ) → MultiplyMeans n q need left right scratch output (multiply-answer n q need left right scratch output)
+MultiplyRefusesTheFirst = (n q need : ℕ) (left right : List ℕ) (scratch output : ℕ) → MultiplyMeans n q need left right scratch output (multiply_answer n q need left right scratch output)

@@ -5,38 +5,38 @@ use Rattle.element.specs.Products.{coefficient, at}
 use Rattle.multiplier.specs.Multipliers.{AllBelow}
 
 -- f 0 + .. + f (m - 1)
-unfoldable pub nat-sum : ℕ → (ℕ → ℕ) → ℕ
-nat-sum zero f = 0
-nat-sum (suc m) f = nat-sum m f + f m
+unfoldable pub nat_sum : ℕ → (ℕ → ℕ) → ℕ
+nat_sum zero f = 0
+nat_sum (suc m) f = nat_sum m f + f m
 
 -- a residue negated modulo q
 abbrev pub negated : ℕ → ℕ → ℕ
 negated q x = (q - x) % q
 
 -- the coefficient k of the product of two elements
-abbrev pub coefficient-mod : (n q : ℕ) (left right : List ℕ) (k : ℕ) → ℕ
-coefficient-mod n q left right k = residue q (coefficient n (at (map pos left)) (at (map pos right)) k)
+abbrev pub coefficient_mod : (n q : ℕ) (left right : List ℕ) (k : ℕ) → ℕ
+coefficient_mod n q left right k = residue q (coefficient n (at (map pos left)) (at (map pos right)) k)
 
 -- the sum of left_i right_j over i + j = m - 1, for two lists of m numbers
-abbrev pub reversed-dot : (left right : List ℕ) → ℕ
-reversed-dot left right = nat-sum (length left) (λ i. slice_index left i * slice_index right (length left - 1 - i))
+abbrev pub reversed_dot : (left right : List ℕ) → ℕ
+reversed_dot left right = nat_sum (length left) (λ i. slice_index left i * slice_index right (length left - 1 - i))
 
 -- what the first m rows add up to in the coefficient k
-abbrev pub row-sum : (left words : List ℕ) (m k : ℕ) → ℕ
-row-sum left words m k = nat-sum m (λ i. slice_index left i * slice_index words (length left - i + k))
+abbrev pub row_sum : (left words : List ℕ) (m k : ℕ) → ℕ
+row_sum left words m k = nat_sum m (λ i. slice_index left i * slice_index words (length left - i + k))
 
 -- two lists of one length, at most 1024, of numbers below q
 pub record Factors (q : ℕ) (left right : List ℕ) : Type 0 where
   pub short : length left ≤ 1024
   pub long : length right ≡ length left
-  pub q-positive : 0 < q
-  pub q-small : q < 2 ^ 23
+  pub q_positive : 0 < q
+  pub q_small : q < 2 ^ 23
   pub left_below : AllBelow q left
-  pub right-below : AllBelow q right
+  pub right_below : AllBelow q right
 
 -- at most 1024 left coefficients, and the words that their rows are taken from
 pub record Rows (left words : List ℕ) : Type 0 where
   pub short : length left ≤ 1024
   pub long : length words ≡ 2 * length left
   pub left_below : AllBelow (2 ^ 23) left
-  pub words-below : AllBelow (2 ^ 23) words
+  pub words_below : AllBelow (2 ^ 23) words

@@ -1,6 +1,6 @@
 // What is tested before a product is made.
 ghost use Rattle.std.specs.Prelude.{◌≡◌};
-ghost use Rattle.multiplier.specs.Multipliers.{MultiplyRefusesTheFirst, front_below, multiply-answer};
+ghost use Rattle.multiplier.specs.Multipliers.{MultiplyRefusesTheFirst, front_below, multiply_answer};
 
 use crate::quotient::QuotientRing;
 use ring::Fault;
@@ -26,7 +26,7 @@ pub(crate) fn check(
     scratch: usize,
     output: usize,
 ) -> Result<(), Fault>
-    ensures { result ≡ multiply-answer ring.degree ring.modulus.q need left.now right.now scratch output }
+    ensures { result ≡ multiply_answer ring.degree ring.modulus.q need left.now right.now scratch output }
 {
     let n = ring.degree();
     if left.len() != n {

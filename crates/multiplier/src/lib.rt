@@ -1,4 +1,6 @@
 // Multiplying ring elements: what a multiplier promises, and two of them.
+#![tactic(auto)]
+
 mod checks;
 mod multiplier;
 mod quotient;

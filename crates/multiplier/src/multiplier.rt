@@ -2,7 +2,7 @@
 ghost use Rattle.std.specs.Prelude.{◌≡◌, ℕ, length};
 ghost use Rattle.element.specs.Products.{product};
 ghost use Rattle.ring.specs.Faults.{after};
-ghost use Rattle.multiplier.specs.Multipliers.{InRange, multiply-answer};
+ghost use Rattle.multiplier.specs.Multipliers.{InRange, multiply_answer};
 ghost use Rattle.multiplier.specs.Scratch.{zeroed};
 
 use ring::Fault;
@@ -34,7 +34,7 @@ pub trait Multiplier {
         scratch: &mut [u32],
         output: &mut [u32],
     ) -> Result<(), Fault>
-        ensures answer { result ≡ multiply-answer (n self.old) (q self.old) (need self.old) left.now right.now (length scratch.old) (length output.old) }
+        ensures answer { result ≡ multiply_answer (n self.old) (q self.old) (need self.old) left.now right.now (length scratch.old) (length output.old) }
         ensures writes { output.new ≡ after result (product (n self.old) (q self.old) left.now right.now) output.old }
         ensures clears { scratch.new ≡ zeroed scratch.old }
         ensures same_degree { n self.new ≡ n self.old }

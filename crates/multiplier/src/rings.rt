@@ -1,6 +1,6 @@
 // Making and reading a ring.
 ghost use Rattle.std.specs.Prelude.{◌≡◌};
-ghost use Rattle.multiplier.specs.Multipliers.{ring-from};
+ghost use Rattle.multiplier.specs.Multipliers.{ring_from};
 
 use crate::quotient::QuotientRing;
 use ring::Modulus;
@@ -10,7 +10,7 @@ const LARGEST_DEGREE: usize = 1024;
 impl QuotientRing {
     // The ring of degree n and modulus q, unless n is no power of two from 1 to 1024, or q is even, below 3, or 2^23 or more.
     pub fn new(n: usize, q: u32) -> Option<Self>
-        ensures { ring-from n q result }
+        ensures { ring_from n q result }
     {
         let modulus = Modulus::new(q)?;
         if n.is_power_of_two() && n <= LARGEST_DEGREE {

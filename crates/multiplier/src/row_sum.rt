@@ -2,9 +2,9 @@
 ghost use Rattle.std.specs.Prelude.{◌≡◌, ℕ, ◌+◌, ◌-◌, ◌*◌, ◌%◌, ◌^◌, ◌<◌, ◌≤◌, ◌++◌, map, length, slice_index};
 ghost use Rattle.element.specs.Products.{product};
 ghost use Rattle.multiplier.specs.Multipliers.{AllBelow};
-ghost use Rattle.multiplier.specs.Sums.{Factors, Rows, negated, row-sum};
+ghost use Rattle.multiplier.specs.Sums.{Factors, Rows, negated, row_sum};
 ghost use Rattle.std.proofs.Common.{arith};
-ghost use Rattle.multiplier.specs.Degrees.{ring-in-range};
+ghost use Rattle.multiplier.specs.Degrees.{ring_in_range};
 
 use crate::checks::check;
 use crate::multiplier::Multiplier;
@@ -60,7 +60,7 @@ fn add_rows(left: &[u32], words: &[u32], start: usize, sums: &mut [u64])
     requires rows { Rows left.now words.now }
     requires inside { start + length sums.old ≤ length left.now }
     requires zero { (t : ℕ) → t < length sums.old → slice_index sums.old t ≡ 0 }
-    ensures { (t : ℕ) → t < length sums.old → slice_index sums.new t ≡ row-sum left.now words.now (length left.now) (start + t) }
+    ensures { (t : ℕ) → t < length sums.old → slice_index sums.new t ≡ row_sum left.now words.now (length left.now) (start + t) }
 {
     let n = left.len();
     let many = sums.len();
@@ -76,7 +76,7 @@ fn write_tile(left: &[u32], words: &[u32], q: u32, start: usize, output: &mut [u
     requires tile { length output.old ≡ 4 }
     requires inside { start + 4 ≤ length left.now }
     requires positive { 0 < q }
-    ensures { (t : ℕ) → t < 4 → slice_index output.new t ≡ row-sum left.now words.now (length left.now) (start + t) % q }
+    ensures { (t : ℕ) → t < 4 → slice_index output.new t ≡ row_sum left.now words.now (length left.now) (start + t) % q }
 {
     let mut sums = [0; TILE];
     add_rows(left, words, start, &mut sums);
@@ -90,7 +90,7 @@ fn coefficient(left: &[u32], words: &[u32], q: u32, k: usize) -> u32
     requires rows { Rows left.now words.now }
     requires inside { k < length left.now }
     requires positive { 0 < q }
-    ensures { result ≡ row-sum left.now words.now (length left.now) k % q }
+    ensures { result ≡ row_sum left.now words.now (length left.now) k % q }
 {
     let mut sums = [0; 1];
     add_rows(left, words, k, &mut sums);
@@ -102,7 +102,7 @@ fn write_sums(left: &[u32], words: &[u32], q: u32, output: &mut [u32])
     requires rows { Rows left.now words.now }
     requires long { length output.old ≡ length left.now }
     requires positive { 0 < q }
-    ensures { (k : ℕ) → k < length output.old → slice_index output.new k ≡ row-sum left.now words.now (length left.now) k % q }
+    ensures { (k : ℕ) → k < length output.old → slice_index output.new k ≡ row_sum left.now words.now (length left.now) k % q }
 {
     let n = left.len();
     let mut start = 0;
@@ -133,7 +133,7 @@ impl Multiplier for RowSum {
 
     ghost need = { λ m. 2 * m.ring.degree };
 
-    ghost lawful = { λ m. ring-in-range m.ring _ (omega (arith, m.ring.most)) };
+    ghost lawful = { λ m. ring_in_range m.ring _ (omega (arith, m.ring.most)) };
 
     fn degree(&self) -> usize {
         self.ring.degree()

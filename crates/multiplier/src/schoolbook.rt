@@ -1,9 +1,9 @@
 // The schoolbook product: for each coefficient in turn its sum.
 ghost use Rattle.std.specs.Prelude.{◌≡◌, ◌*◌, ◌<◌, ◌≤◌, length};
 ghost use Rattle.element.specs.Products.{product};
-ghost use Rattle.multiplier.specs.Sums.{Factors, reversed-dot, coefficient-mod};
+ghost use Rattle.multiplier.specs.Sums.{Factors, reversed_dot, coefficient_mod};
 ghost use Rattle.std.proofs.Common.{arith};
-ghost use Rattle.multiplier.specs.Degrees.{ring-in-range};
+ghost use Rattle.multiplier.specs.Degrees.{ring_in_range};
 
 use crate::checks::check;
 use crate::multiplier::Multiplier;
@@ -28,7 +28,7 @@ impl Schoolbook {
 // The sum of left[i] right[m - 1 - i], for two lists of m numbers below q.
 fn reversed_dot(left: &[u32], right: &[u32], q: u32) -> u64
     requires { Factors q left.now right.now }
-    ensures value { result ≡ reversed-dot left.now right.now }
+    ensures value { result ≡ reversed_dot left.now right.now }
     ensures bound { result ≤ length left.now * (q * q) }
 {
     let m = left.len();
@@ -43,7 +43,7 @@ fn reversed_dot(left: &[u32], right: &[u32], q: u32) -> u64
 fn coefficient(left: &[u32], right: &[u32], k: usize, q: u32) -> u32
     requires inside { k < length left.now }
     requires factors { Factors q left.now right.now }
-    ensures { result ≡ coefficient-mod (length left.now) q left.now right.now k }
+    ensures { result ≡ coefficient_mod (length left.now) q left.now right.now k }
 {
     let n = left.len();
     let modulus = u64::from(q);
@@ -71,7 +71,7 @@ impl Multiplier for Schoolbook {
 
     ghost need = { λ _. 0 };
 
-    ghost lawful = { λ m. ring-in-range m.ring _ (omega (arith, m.ring.most)) };
+    ghost lawful = { λ m. ring_in_range m.ring _ (omega (arith, m.ring.most)) };
 
     fn degree(&self) -> usize {
         self.ring.degree()

@@ -3,7 +3,7 @@ use Rattle.std.proofs.Common.{◌≡◌, ℕ, ◌^◌, ◌≤◌, arith, pow_mon
 use Rattle.profile.specs.Laws.{InRange}
 use Rattle.profile.specs.declared.numbers.Numbers.{Numbers}
 
-pub n-most : (k : Numbers) → InRange k → k.n ≤ 1024
-n-most k range =
-    let most : 2 ^ range.n-power.0 ≤ 2 ^ 10 = pow_mono range.n-power.2 in
-    omega (arith, range.n-power.3)
+pub n_most : (k : Numbers) → InRange k → k.n ≤ 1024
+n_most k range =
+    let most : 2 ^ range.n_power.0 ≤ 2 ^ 10 = pow_mono range.n_power.2 in
+    omega (arith, range.n_power.3)

@@ -6,28 +6,28 @@ use Rattle.profile.specs.Laws.{Functions}
 use Rattle.profile.specs.declared.numbers.Numbers.{Numbers}
 
 -- for a residue below q and one of so many coins, its signal and its key bit
-abbrev pub reconciled : (q coins : ℕ) (signal key-bit : ℕ → ℕ → ℕ) → ℕ → ℕ → Result (ℕ × ℕ) Fault
-reconciled q coins signal key-bit x coin =
+abbrev pub reconciled : (q coins : ℕ) (signal key_bit : ℕ → ℕ → ℕ) → ℕ → ℕ → Result (ℕ × ℕ) Fault
+reconciled q coins signal key_bit x coin =
     cond (nat_lt x q)
-    (cond (nat_lt coin coins) (Ok (signal x coin, key-bit x coin)) (Err (CoinOutOfRange 0)))
+    (cond (nat_lt coin coins) (Ok (signal x coin, key_bit x coin)) (Err (CoinOutOfRange 0)))
     (Err (OutOfRange 0))
 
 -- for a residue below q and a signal of so many bits, the key bit that is read
-abbrev pub key-bit-read : (q width : ℕ) (read : ℕ → ℕ → ℕ) → ℕ → ℕ → Result ℕ Fault
-key-bit-read q width read y signal =
+abbrev pub key_bit_read : (q width : ℕ) (read : ℕ → ℕ → ℕ) → ℕ → ℕ → Result ℕ Fault
+key_bit_read q width read y signal =
     cond (nat_lt y q)
     (cond (nat_lt signal (2 ^ width)) (Ok (read y signal)) (Err (OutOfRange 0)))
     (Err (OutOfRange 0))
 
 module _ (k : Numbers) (f : Functions) where
-  abbrev pub round-answer : ℕ → Result ℕ Fault
-  round-answer x = cond (nat_lt x k.q) (Ok (f.round x)) (Err (OutOfRange 0))
+  abbrev pub round_answer : ℕ → Result ℕ Fault
+  round_answer x = cond (nat_lt x k.q) (Ok (f.round x)) (Err (OutOfRange 0))
 
-  abbrev pub recover-answer : ℕ → Result ℕ Fault
-  recover-answer y = cond (nat_le y k.p) (Ok (f.recover y)) (Err (OutOfRange 0))
+  abbrev pub recover_answer : ℕ → Result ℕ Fault
+  recover_answer y = cond (nat_le y k.p) (Ok (f.recover y)) (Err (OutOfRange 0))
 
-  abbrev pub reconcile-answer : ℕ → ℕ → Result (ℕ × ℕ) Fault
-  reconcile-answer x coin = reconciled k.q k.coins f.signal f.key-bit x coin
+  abbrev pub reconcile_answer : ℕ → ℕ → Result (ℕ × ℕ) Fault
+  reconcile_answer x coin = reconciled k.q k.coins f.signal f.key_bit x coin
 
   abbrev pub read_answer : ℕ → ℕ → Result ℕ Fault
-  read_answer y signal = key-bit-read k.q k.signal_width f.read y signal
+  read_answer y signal = key_bit_read k.q k.signal_width f.read y signal

@@ -3,11 +3,11 @@ use Rattle.std.specs.Prelude.{ℕ, cond, List, ℤ, Some, None, vec_items, Optio
 use Rattle.profile.specs.Secrets.{Bounds}
 use Rattle.profile.specs.declared.place.Place.{Place}
 
-abbrev pub place-bounds : ℕ → ℕ → ℕ → Bounds
-place-bounds n e l = record { n = n; e = e; l = l }
+abbrev pub place_bounds : ℕ → ℕ → ℕ → Bounds
+place_bounds n e l = record { n = n; e = e; l = l }
 
-abbrev pub place-held : {N E L : ℕ} → Place N E L → Option (List ℤ)
-place-held s = cond s.filled (Some (vec_items s.coefficients)) None
+abbrev pub place_held : {N E L : ℕ} → Place N E L → Option (List ℤ)
+place_held s = cond s.filled (Some (vec_items s.coefficients)) None
 
-abbrev pub place-memory : {N E L : ℕ} → Place N E L → List ℤ
-place-memory s = vec_items s.coefficients
+abbrev pub place_memory : {N E L : ℕ} → Place N E L → List ℤ
+place_memory s = vec_items s.coefficients

@@ -21,22 +21,22 @@ pub record LawfulSecret (b : Bounds) (xs : List ℤ) : Type 0 where
   pub light : sum_by unsigned_abs xs ≤ b.l
 
 -- how many come before the first of a size above e
-abbrev pub front-within : ℕ → List ℤ → ℕ
-front-within e xs = prefix_len (λ x. leb (unsigned_abs x) e) xs
+abbrev pub front_within : ℕ → List ℤ → ℕ
+front_within e xs = prefix_len (λ x. leb (unsigned_abs x) e) xs
 
 -- how many come before the one at which the sum, running on from `sum`, first passes l
-abbrev pub front-summing : ℕ → ℕ → List ℤ → ℕ
-front-summing sum l [] = 0
-front-summing sum l (x ∷ xs) = cond (nat_le (sum + unsigned_abs x) l) (1 + front-summing (sum + unsigned_abs x) l xs) 0
+abbrev pub front_summing : ℕ → ℕ → List ℤ → ℕ
+front_summing sum l [] = 0
+front_summing sum l (x ∷ xs) = cond (nat_le (sum + unsigned_abs x) l) (1 + front_summing (sum + unsigned_abs x) l xs) 0
 
 -- what a place answers when xs is handed in
-abbrev pub fill-answer : Bounds → List ℤ → Result (Unit {0}) Fault
-fill-answer b xs =
+abbrev pub fill_answer : Bounds → List ℤ → Result (Unit {0}) Fault
+fill_answer b xs =
     cond (length xs == b.n)
-    (cond (nat_lt (front-within b.e xs) b.n)
-    (Err (OutOfRange (front-within b.e xs)))
-    (cond (nat_lt (front-summing 0 b.l xs) b.n)
-    (Err (SumTooLarge (front-summing 0 b.l xs)))
+    (cond (nat_lt (front_within b.e xs) b.n)
+    (Err (OutOfRange (front_within b.e xs)))
+    (cond (nat_lt (front_summing 0 b.l xs) b.n)
+    (Err (SumTooLarge (front_summing 0 b.l xs)))
     (Ok tt)))
     (Err (WrongLength 1))
 
@@ -63,7 +63,7 @@ FillMeans b xs (Err (SourceSpent i)) = ⊥
 
 -- every list, under any bounds
 abbrev pub FillRefusesTheFirst : Type 0
-FillRefusesTheFirst = (b : Bounds) (xs : List ℤ) → FillMeans b xs (fill-answer b xs)
+FillRefusesTheFirst = (b : Bounds) (xs : List ℤ) → FillMeans b xs (fill_answer b xs)
 
 -- what an optional slice shows
 abbrev pub shown : Option (Bor (List ℤ)) → Option (List ℤ)

@@ -1,5 +1,5 @@
 // What a secret place does.
-ghost use Rattle.profile.specs.Places.{place-bounds, place-held, place-memory};
+ghost use Rattle.profile.specs.Places.{place_bounds, place_held, place_memory};
 
 use crate::place::Place;
 use crate::secret::SecretPlace;
@@ -8,11 +8,11 @@ use ring::Fault;
 use std::alloc::{AllocError, Global};
 
 impl<const N: usize, const E: u32, const L: u32> SecretPlace for Place<N, E, L> {
-    ghost bounds = { place-bounds N E L };
+    ghost bounds = { place_bounds N E L };
 
-    ghost held = { place-held };
+    ghost held = { place_held };
 
-    ghost memory = { place-memory };
+    ghost memory = { place_memory };
 
     fn new(heap: Global) -> Result<Self, AllocError> {
         let coefficients = vec![in heap; 0i32; N]?;

@@ -1,6 +1,6 @@
 // The lengths in bytes of a profile's messages and key.
 ghost use Rattle.std.specs.Prelude.{◌≡◌, ◌+◌, ◌≤◌};
-ghost use Rattle.profile.specs.Lengths.{packed-length, section-length, offer-length, answer-length, confirmation-length, key-length};
+ghost use Rattle.profile.specs.Lengths.{packed_length, section_length, offer_length, answer_length, confirmation_length, key_length};
 
 use crate::profile::Profile;
 
@@ -11,7 +11,7 @@ const SEED: usize = 16;
 // What n numbers of `width` bits take, packed one after another.
 fn packed<P: Profile>(width: u32) -> usize
     requires { width ≤ 16 }
-    ensures value { result ≡ packed-length P.Profile.numbers.n width }
+    ensures value { result ≡ packed_length P.Profile.numbers.n width }
     ensures bound { result ≤ 2048 }
 {
     (P::stated().n * width as usize).div_ceil(8)
@@ -20,14 +20,14 @@ fn packed<P: Profile>(width: u32) -> usize
 // A section has its count of bytes before it, in two bytes.
 fn section(bytes: usize) -> usize
     requires { bytes ≤ 2048 }
-    ensures { result ≡ section-length bytes }
+    ensures { result ≡ section_length bytes }
 {
     2 + bytes
 }
 
 // Head, seed and rounded values.
 pub fn offer_length<P: Profile>() -> usize
-    ensures { result ≡ offer-length P.Profile.numbers }
+    ensures { result ≡ offer_length P.Profile.numbers }
 {
     let values = packed::<P>(P::stated().w);
     section(HEAD) + section(SEED) + section(values)
@@ -35,7 +35,7 @@ pub fn offer_length<P: Profile>() -> usize
 
 // Head, rounded values and signals.
 pub fn answer_length<P: Profile>() -> usize
-    ensures { result ≡ answer-length P.Profile.numbers }
+    ensures { result ≡ answer_length P.Profile.numbers }
 {
     let values = packed::<P>(P::stated().w);
     let signals = packed::<P>(P::stated().signal_width);
@@ -44,14 +44,14 @@ pub fn answer_length<P: Profile>() -> usize
 
 // The head alone, in every profile.
 pub fn confirmation_length() -> usize
-    ensures { result ≡ confirmation-length }
+    ensures { result ≡ confirmation_length }
 {
     section(HEAD)
 }
 
 // One bit for each coefficient.
 pub fn key_length<P: Profile>() -> usize
-    ensures { result ≡ key-length P.Profile.numbers }
+    ensures { result ≡ key_length P.Profile.numbers }
 {
     packed::<P>(1)
 }

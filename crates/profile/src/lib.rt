@@ -1,4 +1,6 @@
 // What a profile is: its numbers, its functions and its laws; where a secret of it is held; and how long its messages are.
+#![tactic(auto)]
+
 mod holding;
 mod lengths;
 mod numbers;

@@ -1,6 +1,6 @@
 // What a profile is to generic code.
 ghost use Rattle.std.specs.Prelude.{◌≡◌};
-ghost use Rattle.profile.specs.Answers.{round-answer, recover-answer, reconcile-answer, read_answer};
+ghost use Rattle.profile.specs.Answers.{round_answer, recover_answer, reconcile_answer, read_answer};
 ghost use Rattle.profile.specs.Laws.{Functions, Lawful};
 ghost use Rattle.profile.specs.Secrets.{bounds_of};
 ghost use Rattle.profile.specs.declared.numbers.Numbers.{Numbers};
@@ -24,15 +24,15 @@ pub trait Profile {
 
     // The rounded value of a residue.
     fn round(x: u32) -> Result<u32, Fault>
-        ensures { result ≡ round-answer numbers functions x };
+        ensures { result ≡ round_answer numbers functions x };
 
     // The integer that a rounded value stands for, before it is reduced modulo q.
     fn recover(y: u32) -> Result<u32, Fault>
-        ensures { result ≡ recover-answer numbers functions y };
+        ensures { result ≡ recover_answer numbers functions y };
 
     // The signal and the key bit of a residue and a coin.
     fn reconcile(x: u32, coin: u8) -> Result<(u8, u8), Fault>
-        ensures { result ≡ reconcile-answer numbers functions x coin };
+        ensures { result ≡ reconcile_answer numbers functions x coin };
 
     // The key bit that a residue and the other end's signal give.
     fn read(y: u32, signal: u8) -> Result<u8, Fault>

@@ -1,7 +1,7 @@
 // Where a secret is held.
 ghost use Rattle.std.specs.Prelude.{◌≡◌, List, ℤ, IfOk, Some, None, Option, MatchOption};
 ghost use Rattle.ring.specs.Faults.{after};
-ghost use Rattle.profile.specs.Secrets.{Bounds, LawfulSecret, FillRefusesTheFirst, fill-answer, shown, zeros};
+ghost use Rattle.profile.specs.Secrets.{Bounds, LawfulSecret, FillRefusesTheFirst, fill_answer, shown, zeros};
 
 use ring::Fault;
 use std::alloc::{AllocError, Global};
@@ -25,7 +25,7 @@ pub trait SecretPlace {
 
     // Takes the coefficients for the secret, in place of what is held; where it refuses, all stays as it was.
     fn fill(&mut self, coefficients: &[i32]) -> Result<(), Fault>
-        ensures answer { result ≡ fill-answer bounds coefficients.now }
+        ensures answer { result ≡ fill_answer bounds coefficients.now }
         ensures holds { held self.new ≡ after result (Some coefficients.now) (held self.old) }
         ensures keeps { memory self.new ≡ after result coefficients.now (memory self.old) };
 

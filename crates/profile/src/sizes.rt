@@ -1,10 +1,10 @@
 // How far the coefficients of a list keep within a bound.
 ghost use Rattle.std.specs.Prelude.{◌≡◌};
-ghost use Rattle.profile.specs.Secrets.{front-within, front-summing};
+ghost use Rattle.profile.specs.Secrets.{front_within, front_summing};
 
 // How many coefficients come before the first one of a size above `bound`.
 pub fn front_within(coefficients: &[i32], bound: u32) -> usize
-    ensures { result ≡ front-within bound coefficients.now }
+    ensures { result ≡ front_within bound coefficients.now }
 {
     for (i, c) in coefficients.iter().enumerate() {
         if c.unsigned_abs() > bound {
@@ -16,7 +16,7 @@ pub fn front_within(coefficients: &[i32], bound: u32) -> usize
 
 // How many coefficients come before the one at which the running sum of sizes first passes `limit`.
 pub fn front_summing(coefficients: &[i32], limit: u32) -> usize
-    ensures { result ≡ front-summing 0 limit coefficients.now }
+    ensures { result ≡ front_summing 0 limit coefficients.now }
 {
     let limit = u64::from(limit);
     let mut sum: u64 = 0;

@@ -1,4 +1,6 @@
 // Tests of the profiles. The values are those of reference/values.py, a second implementation.
+#![tactic(auto)]
+
 #[cfg(test)]
 mod refusals;
 #[cfg(test)]

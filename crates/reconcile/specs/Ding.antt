@@ -9,23 +9,23 @@ abbrev pub within : ℤ → ℤ → ℤ → Bool
 within low high s = cond (int_le low s) (int_le s high) false
 
 -- the inner region is -r .. r for coin 0 and -r+1 .. r+1 for coin 1, where r = floor(q / 4)
-abbrev pub ding-signal : ℕ → ℕ → ℕ → ℕ
-ding-signal q x coin = cond (within (neg_ℤ (pos (q / 4)) +ℤ pos coin) (pos (q / 4) +ℤ pos coin) (signed q x)) 0 1
+abbrev pub ding_signal : ℕ → ℕ → ℕ → ℕ
+ding_signal q x coin = cond (within (neg_ℤ (pos (q / 4)) +ℤ pos coin) (pos (q / 4) +ℤ pos coin) (signed q x)) 0 1
 
 -- the parity of the signed form, after (q-1)/2 is added where the signal is 1
-abbrev pub ding-read : ℕ → ℕ → ℕ → ℕ
-ding-read q y signal = unsigned_abs (signed q ((y + signal * ((q - 1) / 2)) % q)) % 2
+abbrev pub ding_read : ℕ → ℕ → ℕ → ℕ
+ding_read q y signal = unsigned_abs (signed q ((y + signal * ((q - 1) / 2)) % q)) % 2
 
-abbrev pub ding-functions : Reconciliation
-ding-functions = record {
-  signal = ding-signal;
-  key-bit = λ q x coin. ding-read q x (ding-signal q x coin);
-  read = ding-read;
+abbrev pub ding_functions : Reconciliation
+ding_functions = record {
+  signal = ding_signal;
+  key_bit = λ q x coin. ding_read q x (ding_signal q x coin);
+  read = ding_read;
 }
 
 -- tau = floor((q - 4) / 4) = floor(q / 4) - 1
-abbrev pub ding-numbers : ReconcilerNumbers
-ding-numbers = record {
+abbrev pub ding_numbers : ReconcilerNumbers
+ding_numbers = record {
   step = 2;
   coins = 2;
   signal_width = 1;

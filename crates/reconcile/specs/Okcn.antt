@@ -6,23 +6,23 @@ use Rattle.ring.specs.Residues.{residue}
 use Rattle.reconcile.specs.Reconcilers.{Reconciliation}
 use Rattle.reconcile.specs.declared.reconciler.ReconcilerNumbers.{ReconcilerNumbers}
 
-abbrev pub okcn-key-bit : ℕ → ℕ → ℕ → ℕ
-okcn-key-bit q x coin = (2 * x + coin) / q
+abbrev pub okcn_key_bit : ℕ → ℕ → ℕ → ℕ
+okcn_key_bit q x coin = (2 * x + coin) / q
 
-abbrev pub okcn-signal : ℕ → ℕ → ℕ → ℕ
-okcn-signal q x coin = 4 * ((2 * x + coin) % q) / q
+abbrev pub okcn_signal : ℕ → ℕ → ℕ → ℕ
+okcn_signal q x coin = 4 * ((2 * x + coin) % q) / q
 
 -- floor((16 y + q (3 - 2 signal)) / 8 q) modulo 2; divEuclid goes downward for negative numbers too
-abbrev pub okcn-read : ℕ → ℕ → ℕ → ℕ
-okcn-read q y signal =
+abbrev pub okcn_read : ℕ → ℕ → ℕ → ℕ
+okcn_read q y signal =
     residue 2 (int_div_euclid (pos (16 * y) +ℤ pos q *ℤ (pos 3 -ℤ pos (2 * signal))) (pos (8 * q)))
 
-abbrev pub okcn-functions : Reconciliation
-okcn-functions = record { signal = okcn-signal; key-bit = okcn-key-bit; read = okcn-read }
+abbrev pub okcn_functions : Reconciliation
+okcn_functions = record { signal = okcn_signal; key_bit = okcn_key_bit; read = okcn_read }
 
 -- tau = floor((3 q - 8) / 16)
-abbrev pub okcn-numbers : ReconcilerNumbers
-okcn-numbers = record {
+abbrev pub okcn_numbers : ReconcilerNumbers
+okcn_numbers = record {
   step = 1;
   coins = 2;
   signal_width = 2;

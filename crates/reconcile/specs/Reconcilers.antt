@@ -7,7 +7,7 @@ use Rattle.reconcile.specs.declared.reconciler.ReconcilerNumbers.{ReconcilerNumb
 -- each takes the modulus first
 pub record Reconciliation : Type 0 where
   pub signal : ℕ → ℕ → ℕ → ℕ
-  pub key-bit : ℕ → ℕ → ℕ → ℕ
+  pub key_bit : ℕ → ℕ → ℕ → ℕ
   pub read : ℕ → ℕ → ℕ → ℕ
 
 -- the largest difference that is tolerated at the modulus q
@@ -16,23 +16,23 @@ tolerance k q = (k.tolerance.times * q - k.tolerance.less) / 2 ^ k.tolerance.shi
 
 pub record SmallNumbers (k : ReconcilerNumbers) : Type 0 where
   pub step_is : (k.step ≡ 1) ⊎ (k.step ≡ 2)
-  pub coins-least : 1 ≤ k.coins
-  pub coins-most : k.coins ≤ 255
-  pub width-least : 1 ≤ k.signal_width
-  pub width-most : k.signal_width ≤ 8
-  pub times-most : k.tolerance.times ≤ 16
-  pub less-most : k.tolerance.less ≤ 16
-  pub shift-most : k.tolerance.shift ≤ 16
+  pub coins_least : 1 ≤ k.coins
+  pub coins_most : k.coins ≤ 255
+  pub width_least : 1 ≤ k.signal_width
+  pub width_most : k.signal_width ≤ 8
+  pub times_most : k.tolerance.times ≤ 16
+  pub less_most : k.tolerance.less ≤ 16
+  pub shift_most : k.tolerance.shift ≤ 16
 
 pub record Reconciles (k : ReconcilerNumbers) (f : Reconciliation) (q : ℕ) : Type 0 where
-  pub signal-range : (x coin : ℕ) → x < q → coin < k.coins → f.signal q x coin < 2 ^ k.signal_width
-  pub bit-range : (x coin : ℕ) → x < q → coin < k.coins → f.key-bit q x coin < 2
-  pub read-range : (y signal : ℕ) → y < q → signal < 2 ^ k.signal_width → f.read q y signal < 2
-  pub tolerance-below : tolerance k q < q
+  pub signal_range : (x coin : ℕ) → x < q → coin < k.coins → f.signal q x coin < 2 ^ k.signal_width
+  pub bit_range : (x coin : ℕ) → x < q → coin < k.coins → f.key_bit q x coin < 2
+  pub read_range : (y signal : ℕ) → y < q → signal < 2 ^ k.signal_width → f.read q y signal < 2
+  pub tolerance_below : tolerance k q < q
   -- every reconciler tolerates an eighth of the circle for each unit of its step
-  pub tolerance-least : k.step * (q / 8 - 1) ≤ tolerance k q
-  pub reads-within : ReadsWithin q k.coins (f.signal q) (f.key-bit q) k.step (tolerance k q) (f.read q)
-  pub balanced : Balanced q k.coins (f.signal q) (f.key-bit q) k.signal_width
+  pub tolerance_least : k.step * (q / 8 - 1) ≤ tolerance k q
+  pub reads_within : ReadsWithin q k.coins (f.signal q) (f.key_bit q) k.step (tolerance k q) (f.read q)
+  pub balanced : Balanced q k.coins (f.signal q) (f.key_bit q) k.signal_width
 
 -- a reconciler, for every modulus
 pub record Sound (k : ReconcilerNumbers) (f : Reconciliation) : Type 0 where

@@ -1,6 +1,6 @@
 // The reconciler of the Ding key exchange: an inner region by one signal bit, and a parity for the key bit.
-ghost use Rattle.reconcile.specs.Ding.{ding-functions, ding-numbers};
-ghost use Rattle.reconcile.specs.DingLaws.{ding-sound};
+ghost use Rattle.reconcile.specs.Ding.{ding_functions, ding_numbers};
+ghost use Rattle.reconcile.specs.DingLaws.{ding_sound};
 
 use crate::reconciler::{Reconciler, ReconcilerNumbers, Tolerance};
 use ring::{Fault, Modulus};
@@ -20,11 +20,11 @@ impl Reconciler for Ding {
         },
     };
 
-    ghost numbers = { ding-numbers };
+    ghost numbers = { ding_numbers };
 
-    ghost meaning = { ding-functions };
+    ghost meaning = { ding_functions };
 
-    ghost sound = { ding-sound };
+    ghost sound = { ding_sound };
 
     fn stated() -> ReconcilerNumbers {
         Self::NUMBERS

@@ -1,4 +1,6 @@
 // Reconcilers: how two ends that hold nearly equal residues agree on a key bit.
+#![tactic(auto)]
+
 mod ding;
 mod okcn;
 mod reconciler;

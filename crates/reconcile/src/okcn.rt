@@ -1,7 +1,7 @@
 // The reconciler OKCN with two key values and four bands.
 ghost use Rattle.std.specs.Prelude.{◌≡◌, ◌*◌, ◌/◌, ◌^◌, ◌<◌};
-ghost use Rattle.reconcile.specs.Okcn.{okcn-numbers, okcn-functions};
-ghost use Rattle.reconcile.specs.OkcnLaws.{okcn-sound};
+ghost use Rattle.reconcile.specs.Okcn.{okcn_numbers, okcn_functions};
+ghost use Rattle.reconcile.specs.OkcnLaws.{okcn_sound};
 
 use crate::reconciler::{Reconciler, ReconcilerNumbers, Tolerance};
 use ring::{Fault, Modulus};
@@ -35,11 +35,11 @@ impl Reconciler for Okcn {
         },
     };
 
-    ghost numbers = { okcn-numbers };
+    ghost numbers = { okcn_numbers };
 
-    ghost meaning = { okcn-functions };
+    ghost meaning = { okcn_functions };
 
-    ghost sound = { okcn-sound };
+    ghost sound = { okcn_sound };
 
     fn stated() -> ReconcilerNumbers {
         Self::NUMBERS

@@ -1,6 +1,6 @@
 // How two ends that hold nearly equal residues agree on a key bit.
 ghost use Rattle.std.specs.Prelude.{◌≡◌};
-ghost use Rattle.profile.specs.Answers.{reconciled, key-bit-read};
+ghost use Rattle.profile.specs.Answers.{reconciled, key_bit_read};
 ghost use Rattle.reconcile.specs.Reconcilers.{Reconciliation, Sound};
 ghost use Rattle.reconcile.specs.declared.reconciler.ReconcilerNumbers.{ReconcilerNumbers};
 
@@ -36,11 +36,11 @@ pub trait Reconciler {
 
     // The signal and the key bit of a residue and a coin.
     fn reconcile(q: Modulus, x: u32, coin: u8) -> Result<(u8, u8), Fault>
-        ensures { result ≡ reconciled q.q numbers.coins (meaning.signal q.q) (meaning.key-bit q.q) x coin };
+        ensures { result ≡ reconciled q.q numbers.coins (meaning.signal q.q) (meaning.key_bit q.q) x coin };
 
     // The key bit that a residue and the other end's signal give.
     fn read(q: Modulus, y: u32, signal: u8) -> Result<u8, Fault>
-        ensures { result ≡ key-bit-read q.q numbers.signal_width (meaning.read q.q) y signal };
+        ensures { result ≡ key_bit_read q.q numbers.signal_width (meaning.read q.q) y signal };
 
     ghost sound: { Sound numbers meaning };
 }

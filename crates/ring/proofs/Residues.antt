@@ -5,19 +5,19 @@ use Rattle.std.proofs.lemmas.Int.{ints}
 use Rattle.std.proofs.lemmas.Bool.{cond-true, cond-false, le-leb, lt-leb}
 use Rattle.ring.specs.Residues.{residue, signed, IsSignedForm}
 
-pub residue-below : (q : ℕ) (z : ℤ) → 0 < q → residue q z < q
-residue-below q (pos n) h = mod-lt n h
-residue-below q (negsuc n) h = omega arith
+pub residue_below : (q : ℕ) (z : ℤ) → 0 < q → residue q z < q
+residue_below q (pos n) h = mod-lt n h
+residue_below q (negsuc n) h = omega arith
 
 -- an integer of -q .. -1 has the residue q above it
-pub residue-negsuc : (q k : ℕ) → k < q → residue q (negsuc k) ≡ q - 1 - k
-residue-negsuc q k h = ap (λ n. q - 1 - n) (mod-eq_of_lt h)
+pub residue_negsuc : (q k : ℕ) → k < q → residue q (negsuc k) ≡ q - 1 - k
+residue_negsuc q k h = ap (λ n. q - 1 - n) (mod-eq_of_lt h)
 
-pub residue-pos : (q x : ℕ) → x < q → residue q (pos x) ≡ x
-residue-pos q x h = mod-eq_of_lt h
+pub residue_pos : (q x : ℕ) → x < q → residue q (pos x) ≡ x
+residue_pos q x h = mod-eq_of_lt h
 
-pub residue-over : (q x : ℕ) → x < q → residue q (pos (x + q)) ≡ x
-residue-over q x h = add-mod_right x q ∙ mod-eq_of_lt h
+pub residue_over : (q x : ℕ) → x < q → residue q (pos (x + q)) ≡ x
+residue_over q x h = add-mod_right x q ∙ mod-eq_of_lt h
 
 module _ (q x : ℕ) (odd : q % 2 ≡ 1) (h : x < q) where
   pub signed_low : x ≤ (q - 1) / 2 → signed q x ≡ pos x
@@ -27,8 +27,8 @@ module _ (q x : ℕ) (odd : q % 2 ≡ 1) (h : x < q) where
   signed_high high =
       cond-false (leb x ((q - 1) / 2)) (pos x) (pos x -ℤ pos q) (lt-leb x ((q - 1) / 2) high) ∙ omega (arith, ints)
 
-  pub signed-low-form : x ≤ (q - 1) / 2 → IsSignedForm q x (Ok (pos x))
-  signed-low-form low = (residue-pos q x h, omega arith)
+  pub signed_low_form : x ≤ (q - 1) / 2 → IsSignedForm q x (Ok (pos x))
+  signed_low_form low = (residue_pos q x h, omega arith)
 
-  pub signed-high-form : (q - 1) / 2 < x → IsSignedForm q x (Ok (negsuc (q - 1 - x)))
-  signed-high-form high = (residue-negsuc q (q - 1 - x) (omega arith) ∙ omega arith, omega arith)
+  pub signed_high_form : (q - 1) / 2 < x → IsSignedForm q x (Ok (negsuc (q - 1 - x)))
+  signed_high_form high = (residue_negsuc q (q - 1 - x) (omega arith) ∙ omega arith, omega arith)

@@ -15,8 +15,8 @@ report (SumTooLarge place) = record { layer = 1; number = 3; place = place }
 report (CoinOutOfRange place) = record { layer = 1; number = 4; place = place }
 report (SourceSpent place) = record { layer = 1; number = 5; place = place }
 
-abbrev pub layer-of : Fault → ℕ
-layer-of fault = (report fault).layer
+abbrev pub layer_of : Fault → ℕ
+layer_of fault = (report fault).layer
 
 abbrev pub number_of : Fault → ℕ
 number_of fault = (report fault).number

@@ -19,12 +19,12 @@ pub record IsModulus (q : ℕ) : Type 0 where
   pub at_least : 3 ≤ q
   pub below : q < 2 ^ 23
 
-abbrev pub modulus-from : ℕ → Option Modulus → Type 0
-modulus-from q (Some m) = (m.q ≡ q) × IsModulus q
-modulus-from q None = IsModulus q → ⊥
+abbrev pub modulus_from : ℕ → Option Modulus → Type 0
+modulus_from q (Some m) = (m.q ≡ q) × IsModulus q
+modulus_from q None = IsModulus q → ⊥
 
-abbrev pub signed-answer : ℕ → ℕ → Result ℤ Fault
-signed-answer q x = cond (nat_lt x q) (Ok (signed q x)) (Err (OutOfRange 0))
+abbrev pub signed_answer : ℕ → ℕ → Result ℤ Fault
+signed_answer q x = cond (nat_lt x q) (Ok (signed q x)) (Err (OutOfRange 0))
 
 -- what is answered has x for its residue, and no more than (q-1)/2 for its size
 abbrev pub IsSignedForm : ℕ → ℕ → Result ℤ Fault → Type 0

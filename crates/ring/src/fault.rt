@@ -1,6 +1,6 @@
 // Why an operation on ring elements refuses.
 ghost use Rattle.std.specs.Prelude.{◌≡◌};
-ghost use Rattle.ring.specs.Faults.{layer-of, number_of, place_of};
+ghost use Rattle.ring.specs.Faults.{layer_of, number_of, place_of};
 
 // Each case holds the place of the fault: an argument's number for a length, an index for a number of a list, a count for a
 // source. `layer`, `number` and `place` are what is reported of it.
@@ -20,7 +20,7 @@ pub enum Fault {
 
 impl Fault {
     pub fn layer(self) -> u8
-        ensures { result ≡ layer-of self }
+        ensures { result ≡ layer_of self }
     {
         1
     }

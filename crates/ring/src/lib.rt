@@ -1,4 +1,6 @@
 // Residues modulo an odd q, and the faults of the operations on them.
+#![tactic(auto)]
+
 mod fault;
 mod modulus;
 mod residue;

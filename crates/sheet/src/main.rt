@@ -1,5 +1,7 @@
 // Prints the link sheet: for each house profile its numbers, its head bytes, the lengths of its messages and of its key, and
 // what was measured by going through every residue.
+#![tactic(auto)]
+
 use house::{House, NumberSet, S, T, W};
 use profile::{Numbers, Profile, answer_length, confirmation_length, key_length, offer_length};
 use reconcile::{Ding, Okcn, Reconciler};

@@ -7,9 +7,9 @@ use Rattle.std.proofs.lemmas.Bool.{cases_lt}
 use Rattle.std.specs.Int.Digits.{digits_of}
 use Rattle.source.specs.Derivation.{bits, IsBitCount}
 
-pub bits-le : (m k : ℕ) → m < 2 ^ k → bits m ≤ k
+pub bits_le : (m k : ℕ) → m < 2 ^ k → bits m ≤ k
 unfolding bits
-bits-le m k h = length-digits_of-le 2 k m (omega arith) h
+bits_le m k h = length-digits_of-le 2 k m (omega arith) h
 
 pub bits_fit : (m : ℕ) → m < 2 ^ bits m
 unfolding bits
@@ -22,21 +22,21 @@ bits_is m b fits tight =
     (λ below.
     let longer : 2 ^ suc (bits m) ≤ 2 ^ b = pow_mono below in
     absurd (omega (arith, longer, pow-suc 2 (bits m), bits_fit m, tight)))
-    (λ enough. omega (arith, bits-le m b fits))
+    (λ enough. omega (arith, bits_le m b fits))
     (cases_lt (bits m) b)
 
-pub leading-bits : (m : ℕ) → m < 2 ^ 32 → 32 - count_leading_zeros 32 m ≡ bits m
-leading-bits m h =
+pub leading_bits : (m : ℕ) → m < 2 ^ 32 → 32 - count_leading_zeros 32 m ≡ bits m
+leading_bits m h =
     let top = leading_length 32 m h in
     let is : top.0 ≡ bits m = bits_is m top.0 top.2 top.3 in
     omega (arith, top.1)
 
-pub is-bit-count : (m : ℕ) → IsBitCount m (bits m)
-is-bit-count m = record {
+pub is_bit_count : (m : ℕ) → IsBitCount m (bits m)
+is_bit_count m = record {
   fits = bits_fit m;
   least = λ some.
       ⊎_elim
-      (λ below. absurd (omega (arith, bits-le m (bits m - 1) below)))
+      (λ below. absurd (omega (arith, bits_le m (bits m - 1) below)))
       (λ enough. enough)
       (cases_lt m (2 ^ (bits m - 1)));
 }

@@ -8,19 +8,19 @@ use Rattle.std.proofs.lemmas.List.{take_more, length-take-le, length-drop, get_o
 use Rattle.keccak.specs.Sponge.{little_endian}
 use Rattle.source.specs.Derivation.{groups}
 
-pub little-endian-push : (bytes : List ℕ) (b : ℕ) → little_endian (bytes ++ b ∷ []) ≡ little_endian bytes + b * 2 ^ (8 * length bytes)
-little-endian-push [] b = omega arith
-little-endian-push (x ∷ bytes) b =
+pub little_endian_push : (bytes : List ℕ) (b : ℕ) → little_endian (bytes ++ b ∷ []) ≡ little_endian bytes + b * 2 ^ (8 * length bytes)
+little_endian_push [] b = omega arith
+little_endian_push (x ∷ bytes) b =
     let n = length bytes in
     let next : 2 ^ (8 * suc n) ≡ 256 * 2 ^ (8 * n) = ap (λ k. 2 ^ k) (omega arith) ∙ pow-add 2 8 (8 * n) in
     let apart : b * (256 * 2 ^ (8 * n)) ≡ 256 * (b * 2 ^ (8 * n)) = mul_left_comm b 256 (2 ^ (8 * n)) in
-    rw (next, apart) (omega (arith, little-endian-push bytes b, mul-add 256 (little_endian bytes) (b * 2 ^ (8 * n))))
+    rw (next, apart) (omega (arith, little_endian_push bytes b, mul-add 256 (little_endian bytes) (b * 2 ^ (8 * n))))
 
 -- a group's number after one more byte
-pub little-endian-more : (bytes : List ℕ) (i : ℕ) → i < length bytes → little_endian (take (i + 1) bytes) ≡ little_endian (take i bytes) + get_or bytes i 0 * 2 ^ (8 * i)
-little-endian-more bytes i h =
+pub little_endian_more : (bytes : List ℕ) (i : ℕ) → i < length bytes → little_endian (take (i + 1) bytes) ≡ little_endian (take i bytes) + get_or bytes i 0 * 2 ^ (8 * i)
+little_endian_more bytes i h =
     let long : length (take i bytes) ≡ i = length-take-le i bytes (omega arith) in
-    ap little_endian (take_more bytes i 0 h) ∙ little-endian-push (take i bytes) (get_or bytes i 0) ∙ ap (λ n. little_endian (take i bytes) + get_or bytes i 0 * 2 ^ (8 * n)) long
+    ap little_endian (take_more bytes i 0 h) ∙ little_endian_push (take i bytes) (get_or bytes i 0) ∙ ap (λ n. little_endian (take i bytes) + get_or bytes i 0 * 2 ^ (8 * n)) long
 
 -- one more byte above the i that a number is made of
 module _ (number b i : ℕ) (low : number < 2 ^ (8 * i)) (byte : b < 256) (few : i < 4) where
@@ -29,8 +29,8 @@ module _ (number b i : ℕ) (low : number < 2 ^ (8 * i)) (byte : b < 256) (few :
       let whole : (b * 2 ^ (8 * i)) % 2 ^ 32 ≡ b * 2 ^ (8 * i) = shl_whole b 8 (8 * i) 32 byte (omega arith) in
       ap (bit_or number) whole ∙ or_comm number (b * 2 ^ (8 * i)) ∙ or_shifted b (8 * i) number low ∙ omega arith
 
-  pub or-byte-below : bit_or number ((b * 2 ^ (8 * i)) % 2 ^ 32) < 2 ^ (8 * (i + 1))
-  or-byte-below =
+  pub or_byte_below : bit_or number ((b * 2 ^ (8 * i)) % 2 ^ 32) < 2 ^ (8 * (i + 1))
+  or_byte_below =
       let next : 2 ^ (8 * (i + 1)) ≡ 256 * 2 ^ (8 * i) = ap (λ k. 2 ^ k) (omega arith) ∙ pow-add 2 8 (8 * i) in
       let room : (b + 1) * 2 ^ (8 * i) ≤ 256 * 2 ^ (8 * i) = mul-le (b + 1) (2 ^ (8 * i)) 256 (2 ^ (8 * i)) (omega arith) (omega arith) in
       rw (or_byte, next) (omega (arith, room, add-mul b 1 (2 ^ (8 * i))))
@@ -39,10 +39,10 @@ module _ (bytes : List ℕ) (position i : ℕ) (inside : position + i < length b
   pub ahead_more : i < length (drop position bytes)
   ahead_more = simp length-drop (omega arith)
 
-  pub group-more : (number b : ℕ) → number ≡ little_endian (take i (drop position bytes)) → b ≡ get_or bytes (position + i) 0 → number + b * 2 ^ (8 * i) ≡ little_endian (take (i + 1) (drop position bytes))
-  group-more number b is at =
+  pub group_more : (number b : ℕ) → number ≡ little_endian (take i (drop position bytes)) → b ≡ get_or bytes (position + i) 0 → number + b * 2 ^ (8 * i) ≡ little_endian (take (i + 1) (drop position bytes))
+  group_more number b is at =
       let here : b ≡ get_or (drop position bytes) i 0 = at ∙ sym (get_or-drop position bytes i 0) in
-      rw (is, here) (sym (little-endian-more (drop position bytes) i ahead_more))
+      rw (is, here) (sym (little_endian_more (drop position bytes) i ahead_more))
 
 -- ---- the groups of a list
 
@@ -50,15 +50,15 @@ pub groups_none : (c : ℕ) (bytes : List ℕ) → length bytes < c → groups c
 unfolding groups
 groups_none c bytes short = rw (div-eq_of_lt short)
 
-map-shift : (f h : ℕ → ℕ) → ((k : ℕ) → f (k + 1) ≡ h k) → (a m : ℕ) → map f (range_with_len (a + 1) m) ≡ map h (range_with_len a m)
-map-shift f h same a zero = refl
-map-shift f h same a (suc m) = ap₂ ◌∷◌ (same a) (map-shift f h same (a + 1) m)
+map_shift : (f h : ℕ → ℕ) → ((k : ℕ) → f (k + 1) ≡ h k) → (a m : ℕ) → map f (range_with_len (a + 1) m) ≡ map h (range_with_len a m)
+map_shift f h same a zero = refl
+map_shift f h same a (suc m) = ap₂ ◌∷◌ (same a) (map_shift f h same (a + 1) m)
 
-pub groups-more : (c : ℕ) (bytes : List ℕ) → 0 < c → c ≤ length bytes → groups c bytes ≡ little_endian (take c bytes) ∷ groups c (drop c bytes)
+pub groups_more : (c : ℕ) (bytes : List ℕ) → 0 < c → c ≤ length bytes → groups c bytes ≡ little_endian (take c bytes) ∷ groups c (drop c bytes)
 unfolding groups
-groups-more c bytes some whole =
+groups_more c bytes some whole =
     let at : ℕ → ℕ = λ g. little_endian (take c (drop (g * c) bytes)) in
     let after : ℕ → ℕ = λ g. little_endian (take c (drop (g * c) (drop c bytes))) in
     let many : length bytes / c ≡ suc (length (drop c bytes) / c) = div-eq-sub-div some whole ∙ add-one ((length bytes - c) / c) ∙ ap (λ n. suc (n / c)) (sym (length-drop c bytes)) in
     let step : (k : ℕ) → at (k + 1) ≡ after k = λ k. ap (λ (xs : List ℕ). little_endian (take c xs)) (ap (λ j. drop j bytes) (omega (arith, add-mul k 1 c)) ∙ sym (drop-drop (k * c) c bytes)) in
-    ap (λ m. map at (range_with_len 0 m)) many ∙ ap₂ ◌∷◌ (ap (λ j. little_endian (take c (drop j bytes))) (zero-mul c)) (map-shift at after step 0 (length (drop c bytes) / c))
+    ap (λ m. map at (range_with_len 0 m)) many ∙ ap₂ ◌∷◌ (ap (λ j. little_endian (take c (drop j bytes))) (zero-mul c)) (map_shift at after step 0 (length (drop c bytes) / c))

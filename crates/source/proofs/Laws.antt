@@ -9,17 +9,17 @@ use Rattle.std.proofs.lemmas.List.{length-append, length-drop, length-take, leng
 use Rattle.std.proofs.lemmas.Bool.{cases_lt, cond_both, eqb-true, eqb-false, ltb-true, ltb-false}
 use Rattle.ring.specs.declared.fault.Fault.{Fault}
 use Rattle.keccak.specs.Sponge.{little_endian}
-use Rattle.source.specs.Derivation.{bits, bytes-for, groups, candidates, kept, derived, keep-answer, derive-answer}
+use Rattle.source.specs.Derivation.{bits, bytes_for, groups, candidates, kept, derived, keep_answer, derive_answer}
 use Rattle.source.specs.Laws.{IsElement, DeriveMeans}
-use Rattle.source.proofs.Groups.{groups_none, groups-more}
-use Rattle.source.proofs.Keeping.{group-bytes, bits-some}
+use Rattle.source.proofs.Groups.{groups_none, groups_more}
+use Rattle.source.proofs.Keeping.{group_bytes, bits_some}
 
-pub kept-below : (q : ℕ) (bytes : List ℕ) → All (λ x. x < q) (kept q bytes)
+pub kept_below : (q : ℕ) (bytes : List ℕ) → All (λ x. x < q) (kept q bytes)
 unfolding kept
-kept-below q bytes = All-weaker (λ x. ltb x q ≡ true) (λ x. x < q) (λ x t. ltb-true x q t) (kept q bytes) (kept_by_passes (λ x. ltb x q) (candidates q bytes))
+kept_below q bytes = All-weaker (λ x. ltb x q ≡ true) (λ x. x < q) (λ x t. ltb-true x q t) (kept q bytes) (kept_by_passes (λ x. ltb x q) (candidates q bytes))
 
-pub derive-means : (n q : ℕ) (bytes : List ℕ) (places : ℕ) → DeriveMeans n q bytes places (derive-answer n q bytes places)
-derive-means n q bytes places =
+pub derive_means : (n q : ℕ) (bytes : List ℕ) (places : ℕ) → DeriveMeans n q bytes places (derive_answer n q bytes places)
+derive_means n q bytes places =
     cond_both (eqb places n) _ _ (DeriveMeans n q bytes places)
     (λ same.
     let fit : places ≡ n = eqb-true _ _ same in
@@ -29,42 +29,42 @@ derive-means n q bytes places =
       fit,
       record {
         long = length-take-le n (kept q bytes) (ltb-false _ _ enough);
-        below = All-take (λ x. x < q) n (kept q bytes) (kept-below q bytes);
+        below = All-take (λ x. x < q) n (kept q bytes) (kept_below q bytes);
       },
     )))
     (λ other. (eqb-false _ _ other, refl))
 
 -- ---- bytes after those that suffice
 
-groups-append : (c : ℕ) → 0 < c → (m : ℕ) (bytes more : List ℕ) → length bytes / c ≡ m → (rest : List ℕ) × (groups c (bytes ++ more) ≡ groups c bytes ++ rest)
-groups-append c some zero bytes more is =
+groups_append : (c : ℕ) → 0 < c → (m : ℕ) (bytes more : List ℕ) → length bytes / c ≡ m → (rest : List ℕ) × (groups c (bytes ++ more) ≡ groups c bytes ++ rest)
+groups_append c some zero bytes more is =
     let short : length bytes < c = ⊎_elim (λ lt. lt) (λ le. absurd (omega (arith, le-div 1 (length bytes) c some (omega arith)))) (cases_lt (length bytes) c) in
     (groups c (bytes ++ more), ap (λ (xs : List ℕ). xs ++ groups c (bytes ++ more)) (sym (groups_none c bytes short)))
-groups-append c some (suc m) bytes more is =
+groups_append c some (suc m) bytes more is =
     let whole : c ≤ length bytes = ⊎_elim (λ lt. absurd (omega (arith, div-eq_of_lt lt))) (λ le. le) (cases_lt (length bytes) c) in
     let left : length (drop c bytes) / c ≡ m = ap (λ n. n / c) (length-drop c bytes) ∙ omega (arith, div-eq-sub-div some whole) in
-    let after = groups-append c some m (drop c bytes) more left in (
+    let after = groups_append c some m (drop c bytes) more left in (
       after.0,
-      groups-more c (bytes ++ more) some (omega (arith, length-append bytes more))
+      groups_more c (bytes ++ more) some (omega (arith, length-append bytes more))
           ∙ ap₂ (λ (x : ℕ) (xs : List ℕ). x ∷ xs) (ap little_endian (take-append-le c bytes more whole)) (ap (groups c) (drop-append-le c bytes more whole) ∙ after.1)
-          ∙ ap (λ (xs : List ℕ). xs ++ after.0) (sym (groups-more c bytes some whole)),
+          ∙ ap (λ (xs : List ℕ). xs ++ after.0) (sym (groups_more c bytes some whole)),
     )
 
 kept_append : (q : ℕ) → 1 < q → (bytes more : List ℕ) → (rest : List ℕ) × (kept q (bytes ++ more) ≡ kept q bytes ++ rest)
 unfolding kept candidates
 kept_append q least bytes more =
-    let c = group-bytes q in
+    let c = group_bytes q in
     let low : ℕ → ℕ = λ x. x % 2 ^ bits (q - 1) in
-    let after = groups-append c (omega (arith, bits-some q least)) (length bytes / c) bytes more refl in (
+    let after = groups_append c (omega (arith, bits_some q least)) (length bytes / c) bytes more refl in (
       filter (λ x. ltb x q) (map low after.0),
       ap (λ (xs : List ℕ). filter (λ x. ltb x q) (map low xs)) after.1
           ∙ ap (filter (λ x. ltb x q)) (map-append low (groups c bytes) after.0)
           ∙ filter-append (λ x. ltb x q) (map low (groups c bytes)) (map low after.0),
     )
 
-pub derived-stable : (n q : ℕ) (bytes more : List ℕ) (places : ℕ) → 1 < q → derive-answer n q bytes places ≡ Ok tt → derived n q (bytes ++ more) ≡ derived n q bytes
-derived-stable n q bytes more places least accepted =
+pub derived_stable : (n q : ℕ) (bytes more : List ℕ) (places : ℕ) → 1 < q → derive_answer n q bytes places ≡ Ok tt → derived n q (bytes ++ more) ≡ derived n q bytes
+derived_stable n q bytes more places least accepted =
     let after = kept_append q least bytes more in
-    let element = (subst (DeriveMeans n q bytes places) accepted (derive-means n q bytes places)).1 in
+    let element = (subst (DeriveMeans n q bytes places) accepted (derive_means n q bytes places)).1 in
     let enough : n ≤ length (kept q bytes) = omega (arith, element.long, length-take n (kept q bytes)) in
     ap (take n) after.1 ∙ take-append-le n (kept q bytes) after.0 enough

@@ -5,10 +5,10 @@ use Rattle.profile.specs.Laws.{Functions, Lawful}
 use Rattle.profile.specs.declared.numbers.Numbers.{Numbers}
 
 -- its tolerance is above 1, and below q
-pub q-least : (k : Numbers) (f : Functions) → Lawful k f → 1 < k.q
-q-least k f law =
+pub q_least : (k : Numbers) (f : Functions) → Lawful k f → 1 < k.q
+q_least k f law =
     let range = law.in-range in
     let step : 1 ≤ k.step = ⊎_elim (λ e. omega (arith, e)) (λ e. omega (arith, e)) range.step_is in
-    let error : 1 * 1 ≤ k.step * k.e = mul-le 1 1 k.step k.e step range.e-least in
-    let both : (2 * 1) * 1 ≤ (2 * k.l) * (k.step * k.e + k.r) = mul-le (2 * 1) 1 (2 * k.l) (k.step * k.e + k.r) (omega (arith, range.l-least)) (omega arith) in
-    omega (arith, law.within-tolerance, range.tau-below)
+    let error : 1 * 1 ≤ k.step * k.e = mul-le 1 1 k.step k.e step range.e_least in
+    let both : (2 * 1) * 1 ≤ (2 * k.l) * (k.step * k.e + k.r) = mul-le (2 * 1) 1 (2 * k.l) (k.step * k.e + k.r) (omega (arith, range.l_least)) (omega arith) in
+    omega (arith, law.within_tolerance, range.tau_below)

@@ -16,8 +16,8 @@ pub record IsBitCount (m b : ℕ) : Type 0 where
   pub least : 0 < b → 2 ^ (b - 1) ≤ m
 
 -- how many bytes so many bits take
-abbrev pub bytes-for : ℕ → ℕ
-bytes-for b = (b + 7) / 8
+abbrev pub bytes_for : ℕ → ℕ
+bytes_for b = (b + 7) / 8
 
 -- the whole groups of c bytes, each as a number, its lowest byte first
 unfoldable pub groups : ℕ → List ℕ → List ℕ
@@ -25,7 +25,7 @@ groups c bytes = map (λ g. little_endian (take c (drop (g * c) bytes))) (range_
 
 -- the low bits of each group, as many as q - 1 needs
 unfoldable pub candidates : ℕ → List ℕ → List ℕ
-candidates q bytes = map (λ x. x % 2 ^ bits (q - 1)) (groups (bytes-for (bits (q - 1))) bytes)
+candidates q bytes = map (λ x. x % 2 ^ bits (q - 1)) (groups (bytes_for (bits (q - 1))) bytes)
 
 unfoldable pub kept : ℕ → List ℕ → List ℕ
 kept q bytes = filter (λ x. ltb x q) (candidates q bytes)
@@ -35,12 +35,12 @@ abbrev pub derived : ℕ → ℕ → List ℕ → List ℕ
 derived n q bytes = take n (kept q bytes)
 
 -- whether n numbers can be taken of those that are kept
-abbrev pub keep-answer : ℕ → List ℕ → Result (Unit {0}) Fault
-keep-answer n numbers = cond (nat_lt (length numbers) n) (Err (SourceSpent (length numbers))) (Ok tt)
+abbrev pub keep_answer : ℕ → List ℕ → Result (Unit {0}) Fault
+keep_answer n numbers = cond (nat_lt (length numbers) n) (Err (SourceSpent (length numbers))) (Ok tt)
 
 -- what a derivation into an output of so many places answers
-abbrev pub derive-answer : ℕ → ℕ → List ℕ → ℕ → Result (Unit {0}) Fault
-derive-answer n q bytes places = cond (places == n) (keep-answer n (kept q bytes)) (Err (WrongLength 4))
+abbrev pub derive_answer : ℕ → ℕ → List ℕ → ℕ → Result (Unit {0}) Fault
+derive_answer n q bytes places = cond (places == n) (keep_answer n (kept q bytes)) (Err (WrongLength 4))
 
 -- ---- one group, from a position on
 

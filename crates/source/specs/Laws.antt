@@ -3,7 +3,7 @@ use Rattle.std.specs.Prelude.{◌≡◌, ℕ, ◌-◌, ◌<◌, List, [], ◌∷
 use Rattle.std.specs.List.{AllByRecursion as All}
 use Rattle.ring.specs.declared.fault.Fault.{Fault}
 use Rattle.ring.specs.declared.fault.Fault.TheVariants.{WrongLength, OutOfRange, SumTooLarge, CoinOutOfRange, SourceSpent}
-use Rattle.source.specs.Derivation.{bits, bytes-for, kept, derived, derive-answer}
+use Rattle.source.specs.Derivation.{bits, bytes_for, kept, derived, derive_answer}
 
 -- n residues modulo q
 pub record IsElement (n q : ℕ) (xs : List ℕ) : Type 0 where
@@ -22,16 +22,16 @@ DeriveMeans n q bytes places (Err (CoinOutOfRange i)) = ⊥
 -- q - 1 needs b bits, which take c bytes
 pub record Groups (q b c : ℕ) : Type 0 where
   pub bits_are : bits (q - 1) ≡ b
-  pub bytes-are : bytes-for b ≡ c
+  pub bytes_are : bytes_for b ≡ c
 
 pub record DerivationLaws : Type 0 where
-  pub means : (n q : ℕ) (bytes : List ℕ) (places : ℕ) → DeriveMeans n q bytes places (derive-answer n q bytes places)
+  pub means : (n q : ℕ) (bytes : List ℕ) (places : ℕ) → DeriveMeans n q bytes places (derive_answer n q bytes places)
   -- bytes after those that suffice change nothing
-  pub stable : (n q : ℕ) (bytes more : List ℕ) (places : ℕ) → 1 < q → derive-answer n q bytes places ≡ Ok tt → derived n q (bytes ++ more) ≡ derived n q bytes
+  pub stable : (n q : ℕ) (bytes more : List ℕ) (places : ℕ) → 1 < q → derive_answer n q bytes places ≡ Ok tt → derived n q (bytes ++ more) ≡ derived n q bytes
 
 -- at the moduli of the number sets T, S and W, and one element that was worked out by hand
 pub record DerivationValues : Type 0 where
-  pub groups-t : Groups 257 9 2
-  pub groups-s : Groups 12289 14 2
-  pub groups-w : Groups 8380417 23 3
-  pub element-t : derived 4 257 (0xff ∷ 0xff ∷ 0x64 ∷ 0x00 ∷ 0xc8 ∷ 0x00 ∷ 0x05 ∷ 0x00 ∷ 0x00 ∷ 0x00 ∷ []) ≡ 100 ∷ 200 ∷ 5 ∷ 0 ∷ []
+  pub groups_t : Groups 257 9 2
+  pub groups_s : Groups 12289 14 2
+  pub groups_w : Groups 8380417 23 3
+  pub element_t : derived 4 257 (0xff ∷ 0xff ∷ 0x64 ∷ 0x00 ∷ 0xc8 ∷ 0x00 ∷ 0x05 ∷ 0x00 ∷ 0x00 ∷ 0x00 ∷ []) ≡ 100 ∷ 200 ∷ 5 ∷ 0 ∷ []

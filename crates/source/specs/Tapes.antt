@@ -2,11 +2,11 @@
 use Rattle.std.specs.Prelude.{ℕ, List}
 use Rattle.source.specs.declared.tape.Tape.{Tape}
 
-abbrev pub tape-meaning : Tape → List ℕ → List ℕ
-tape-meaning tape seed = tape.bytes.now
+abbrev pub tape_meaning : Tape → List ℕ → List ℕ
+tape_meaning tape seed = tape.bytes.now
 
-abbrev pub tape-reading : Tape → List ℕ
-tape-reading tape = tape.reading.now
+abbrev pub tape_reading : Tape → List ℕ
+tape_reading tape = tape.reading.now
 
-abbrev pub tape-position : Tape → ℕ
-tape-position tape = tape.position
+abbrev pub tape_position : Tape → ℕ
+tape_position tape = tape.position

@@ -1,7 +1,7 @@
 // The ring element that a seed and a byte source give.
 ghost use Rattle.std.specs.Prelude.{◌≡◌, ◌^◌, ◌<◌, ◌≤◌, length, take, drop, OnOk};
 ghost use Rattle.ring.specs.Faults.{after};
-ghost use Rattle.source.specs.Derivation.{kept, derived, keep-answer, derive-answer};
+ghost use Rattle.source.specs.Derivation.{kept, derived, keep_answer, derive_answer};
 
 use crate::bits::{bit_count, low_bits};
 use crate::group::next_number;
@@ -16,7 +16,7 @@ const ROOM: usize = 1024;
 fn keep_numbers<S: ByteSource>(source: &mut S, q: u32, numbers: &mut [u32]) -> Result<(), Fault>
     requires { (1 < q) × (q < 2 ^ 23) }
     ensures means { S.ByteSource.meaning source.new ≡ S.ByteSource.meaning source.old }
-    ensures answer { result ≡ keep-answer (length numbers.old) (kept q (drop (S.ByteSource.position source.old) (S.ByteSource.reading source.old))) }
+    ensures answer { result ≡ keep_answer (length numbers.old) (kept q (drop (S.ByteSource.position source.old) (S.ByteSource.reading source.old))) }
     ensures first { OnOk result (numbers.new ≡ take (length numbers.old) (kept q (drop (S.ByteSource.position source.old) (S.ByteSource.reading source.old)))) }
 {
     let bits = bit_count(q - 1);
@@ -46,7 +46,7 @@ fn fill_through<S: ByteSource>(
 ) -> Result<(), Fault>
     requires { (1 < q) × ((q < 2 ^ 23) × (length output.old ≤ length room.old)) }
     ensures means { S.ByteSource.meaning source.new ≡ S.ByteSource.meaning source.old }
-    ensures answer { result ≡ keep-answer (length output.old) (kept q (drop (S.ByteSource.position source.old) (S.ByteSource.reading source.old))) }
+    ensures answer { result ≡ keep_answer (length output.old) (kept q (drop (S.ByteSource.position source.old) (S.ByteSource.reading source.old))) }
     ensures fills { output.new ≡ after result (take (length output.old) (kept q (drop (S.ByteSource.position source.old) (S.ByteSource.reading source.old)))) output.old }
 {
     let n = output.len();
@@ -62,7 +62,7 @@ pub fn derive<P: Profile, S: ByteSource>(
     seed: &[u8; 16],
     output: &mut [u32],
 ) -> Result<(), Fault>
-    ensures answer { result ≡ derive-answer P.Profile.numbers.n P.Profile.numbers.q (S.ByteSource.meaning source.old seed.now) (length output.old) }
+    ensures answer { result ≡ derive_answer P.Profile.numbers.n P.Profile.numbers.q (S.ByteSource.meaning source.old seed.now) (length output.old) }
     ensures element { output.new ≡ after result (derived P.Profile.numbers.n P.Profile.numbers.q (S.ByteSource.meaning source.old seed.now)) output.old }
     ensures means { S.ByteSource.meaning source.new ≡ S.ByteSource.meaning source.old }
 {

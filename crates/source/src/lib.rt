@@ -1,4 +1,6 @@
 // Bytes made from a seed, and the ring element that they give.
+#![tactic(auto)]
+
 mod bits;
 mod derivation;
 mod group;

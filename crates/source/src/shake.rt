@@ -1,7 +1,7 @@
 // SHAKE128 of the seed, a block at a time.
 ghost use Rattle.std.specs.Prelude.{◌≡◌, ◌-◌, ◌<◌, ◌≤◌};
 ghost use Rattle.keccak.specs.Laws.{permuted};
-ghost use Rattle.keccak.specs.Sponge.{absorbed, next-state, output-block};
+ghost use Rattle.keccak.specs.Sponge.{absorbed, next_state, output_block};
 
 use keccak::Shake128;
 
@@ -19,6 +19,6 @@ pub struct ShakeSource {
     ghost within: { blocks ≤ limit },
     ghost inside: { offset ≤ 168 },
     ghost unread: { blocks ≡ 0 → offset ≡ 168 },
-    ghost squeezed: { next-state sponge ≡ permuted blocks (absorbed seed) },
-    ghost last: { 0 < blocks → block ≡ output-block (permuted (blocks - 1) (absorbed seed)) },
+    ghost squeezed: { next_state sponge ≡ permuted blocks (absorbed seed) },
+    ghost last: { 0 < blocks → block ≡ output_block (permuted (blocks - 1) (absorbed seed)) },
 }

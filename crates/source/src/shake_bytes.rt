@@ -2,7 +2,7 @@
 ghost use Rattle.std.specs.Prelude.{◌≡◌, ℕ, ◌<◌, ◌≤◌, List, []};
 ghost use Rattle.keccak.specs.Sponge.{shake128};
 ghost use Rattle.source.specs.Sources.{Byte};
-ghost use Rattle.source.specs.Shakes.{shake-meaning, shake-reading, shake-position};
+ghost use Rattle.source.specs.Shakes.{shake_meaning, shake_reading, shake_position};
 
 use crate::shake::ShakeSource;
 use crate::source::ByteSource;
@@ -17,9 +17,9 @@ const BLOCKS: usize = 24;
 impl ShakeSource {
     // Has nothing to give before it begins.
     pub fn new() -> Self
-        ensures means { (seed : List ℕ) → shake-meaning result seed ≡ shake128 seed 4032 }
-        ensures unread { shake-reading result ≡ [] }
-        ensures starts { shake-position result ≡ 0 }
+        ensures means { (seed : List ℕ) → shake_meaning result seed ≡ shake128 seed 4032 }
+        ensures unread { shake_reading result ≡ [] }
+        ensures starts { shake_position result ≡ 0 }
     {
         ShakeSource::at_start(&[0; 16], 0)
     }
@@ -29,7 +29,7 @@ impl ShakeSource {
         requires { limit ≤ 24 }
         ensures seeded { result.seed ≡ seed.now }
         ensures limited { result.limit ≡ limit }
-        ensures starts { shake-position result ≡ 0 }
+        ensures starts { shake_position result ≡ 0 }
     {
         ShakeSource {
             seed: *seed,
@@ -44,8 +44,8 @@ impl ShakeSource {
     // Squeezes one more block.
     fn squeeze_block(&mut self)
         requires { (self.old.blocks < self.old.limit) × (self.old.offset ≡ 168) }
-        ensures reads { shake-reading self.new ≡ shake-reading self.old }
-        ensures stays { shake-position self.new ≡ shake-position self.old }
+        ensures reads { shake_reading self.new ≡ shake_reading self.old }
+        ensures stays { shake_position self.new ≡ shake_position self.old }
         ensures fresh { self.new.offset ≡ 0 }
     {
         self.sponge.squeeze(&mut self.block);
@@ -56,8 +56,8 @@ impl ShakeSource {
     // The next byte of the block.
     fn next_of_block(&mut self) -> u8
         requires { self.old.offset < 168 }
-        ensures reads { shake-reading self.new ≡ shake-reading self.old }
-        ensures gives { Byte (shake-reading self.old) (shake-position self.old) result (shake-position self.new) }
+        ensures reads { shake_reading self.new ≡ shake_reading self.old }
+        ensures gives { Byte (shake_reading self.old) (shake_position self.old) result (shake_position self.new) }
     {
         let byte = self.block[self.offset];
         self.offset += 1;
@@ -66,11 +66,11 @@ impl ShakeSource {
 }
 
 impl ByteSource for ShakeSource {
-    ghost meaning = { shake-meaning };
+    ghost meaning = { shake_meaning };
 
-    ghost reading = { shake-reading };
+    ghost reading = { shake_reading };
 
-    ghost position = { shake-position };
+    ghost position = { shake_position };
 
     fn begin(&mut self, seed: &[u8; 16]) {
         *self = ShakeSource::at_start(seed, BLOCKS);

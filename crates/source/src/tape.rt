@@ -1,6 +1,6 @@
 // The same bytes for every seed.
 ghost use Rattle.std.specs.Prelude.{◌≡◌, ℕ, List, []};
-ghost use Rattle.source.specs.Tapes.{tape-meaning, tape-reading, tape-position};
+ghost use Rattle.source.specs.Tapes.{tape_meaning, tape_reading, tape_position};
 
 use crate::source::ByteSource;
 
@@ -14,9 +14,9 @@ pub struct Tape<'a> {
 impl<'a> Tape<'a> {
     // Has nothing to give before it begins.
     pub fn new(bytes: &'a [u8]) -> Self
-        ensures means { (seed : List ℕ) → tape-meaning result seed ≡ bytes.now }
-        ensures unread { tape-reading result ≡ [] }
-        ensures starts { tape-position result ≡ 0 }
+        ensures means { (seed : List ℕ) → tape_meaning result seed ≡ bytes.now }
+        ensures unread { tape_reading result ≡ [] }
+        ensures starts { tape_position result ≡ 0 }
     {
         Tape {
             bytes,
@@ -27,11 +27,11 @@ impl<'a> Tape<'a> {
 }
 
 impl<'a> ByteSource for Tape<'a> {
-    ghost meaning = { tape-meaning };
+    ghost meaning = { tape_meaning };
 
-    ghost reading = { tape-reading };
+    ghost reading = { tape_reading };
 
-    ghost position = { tape-position };
+    ghost position = { tape_position };
 
     fn begin(&mut self, _seed: &[u8; 16]) {
         self.reading = self.bytes;

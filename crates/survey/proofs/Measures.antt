@@ -5,59 +5,59 @@ use Rattle.std.proofs.lemmas.Int.{ints, clamps}
 use Rattle.std.proofs.lemmas.Bool.{le-leb, lt-leb, eq-eqb, ne_eqb, and_from, and_left, and_right, cases_lt, cases_cond, cond_both}
 use Rattle.std.specs.Int.{int_min, int_max}
 use Rattle.profile.proofs.Accepted.{recovered}
-use Rattle.profile.specs.Answers.{recover-answer}
+use Rattle.profile.specs.Answers.{recover_answer}
 use Rattle.profile.specs.Counts.{count}
-use Rattle.profile.specs.Laws.{Functions, Lawful, key-count}
+use Rattle.profile.specs.Laws.{Functions, Lawful, key_count}
 use Rattle.profile.specs.declared.numbers.Numbers.{Numbers}
 use Rattle.survey.specs.Surveys.{distance, tie, IsFirst, Surveyed, widened}
 use Rattle.survey.specs.declared.rounding.RoundingSurvey.{RoundingSurvey}
 
-last-or-below : (n x : ℕ) → x < n + 1 → (x ≡ n) ⊎ (x < n)
-last-or-below n x h = ⊎_elim inr (λ le. inl (omega arith)) (cases_lt x n)
+last_or_below : (n x : ℕ) → x < n + 1 → (x ≡ n) ⊎ (x < n)
+last_or_below n x h = ⊎_elim inr (λ le. inl (omega arith)) (cases_lt x n)
 
 module _ (k : Numbers) (f : Functions) (x y t : ℕ) (y-is : y ≡ f.round x) (t-is : t ≡ f.recover y) where
   pub distance_is : pos t -ℤ pos x ≡ distance f x
   distance_is = ap (λ n. pos n -ℤ pos x) (t-is ∙ ap f.recover y-is)
 
   -- the next value of the class is there, and recovers to u
-  pub tie-next : (u : ℕ) → u ≡ f.recover (y + k.step) → y + k.step ≤ k.p → eqb (t + u) (2 * x) ≡ tie k f x
-  tie-next u u-is room =
+  pub tie_next : (u : ℕ) → u ≡ f.recover (y + k.step) → y + k.step ≤ k.p → eqb (t + u) (2 * x) ≡ tie k f x
+  tie_next u u-is room =
       let here : tie k f x ≡ (leb (y + k.step) k.p && eqb (t + u) (2 * x)) = cc in
       sym (here ∙ ap (λ b. b && eqb (t + u) (2 * x)) (le-leb (y + k.step) k.p room))
 
   -- there is no next value
-  pub tie-last : k.p < y + k.step → false ≡ tie k f x
-  tie-last none =
+  pub tie_last : k.p < y + k.step → false ≡ tie k f x
+  tie_last none =
       sym (and_left _ _ (ap (λ n. leb (n + k.step) k.p) (sym y-is) ∙ lt-leb (y + k.step) k.p none))
 
 -- what is recovered stays below 2^24
-pub recovered-below : (k : Numbers) (f : Functions) → Lawful k f → (y t : ℕ) → recover-answer k f y ≡ Ok t → t < 2 ^ 24
-recovered-below k f lawful y t e =
+pub recovered_below : (k : Numbers) (f : Functions) → Lawful k f → (y t : ℕ) → recover_answer k f y ≡ Ok t → t < 2 ^ 24
+recovered_below k f lawful y t e =
     ⊎_elim
     (λ over. absurd (let refused = lt-leb y k.p over in let z : ◌≡◌ {A = ℕ} 0 1 = cc in omega arith))
-    (λ within. omega (arith, recovered k f y t e, lawful.recover-range y within, lawful.in-range.q-below))
+    (λ within. omega (arith, recovered k f y t e, lawful.recover_range y within, lawful.in-range.q_below))
     (cases_lt k.p y)
 
-pub count-more : (passes : ℕ → Bool) (n : ℕ) → count passes (n + 1) ≡ count passes n + cond (passes n) 1 0
-count-more passes n = ap (count passes) (add-one n)
+pub count_more : (passes : ℕ → Bool) (n : ℕ) → count passes (n + 1) ≡ count passes n + cond (passes n) 1 0
+count_more passes n = ap (count passes) (add-one n)
 
 module _ (f : Functions) (n coin signal bit : ℕ) where
   -- a residue with the signal and the key bit is one more, and any other is none
-  pub key-count-yes : f.signal n coin ≡ signal → f.key-bit n coin ≡ bit → key-count f.signal f.key-bit (n + 1) coin signal bit ≡ key-count f.signal f.key-bit n coin signal bit + 1
-  key-count-yes s b = count-more _ n ∙ ap (λ t. key-count f.signal f.key-bit n coin signal bit + cond t 1 0) (and_from _ _ (eq-eqb _ _ s) (eq-eqb _ _ b))
+  pub key_count_yes : f.signal n coin ≡ signal → f.key_bit n coin ≡ bit → key_count f.signal f.key_bit (n + 1) coin signal bit ≡ key_count f.signal f.key_bit n coin signal bit + 1
+  key_count_yes s b = count_more _ n ∙ ap (λ t. key_count f.signal f.key_bit n coin signal bit + cond t 1 0) (and_from _ _ (eq-eqb _ _ s) (eq-eqb _ _ b))
 
-  pub key-count-other-signal : (f.signal n coin ≡ signal → ⊥) → key-count f.signal f.key-bit (n + 1) coin signal bit ≡ key-count f.signal f.key-bit n coin signal bit
-  key-count-other-signal s =
-      count-more _ n ∙ (ap (λ t. key-count f.signal f.key-bit n coin signal bit + cond t 1 0) (and_left _ _ (ne_eqb _ _ s)) ∙ add-zero _)
+  pub key_count_other_signal : (f.signal n coin ≡ signal → ⊥) → key_count f.signal f.key_bit (n + 1) coin signal bit ≡ key_count f.signal f.key_bit n coin signal bit
+  key_count_other_signal s =
+      count_more _ n ∙ (ap (λ t. key_count f.signal f.key_bit n coin signal bit + cond t 1 0) (and_left _ _ (ne_eqb _ _ s)) ∙ add-zero _)
 
-  pub key-count-other-bit : (f.key-bit n coin ≡ bit → ⊥) → key-count f.signal f.key-bit (n + 1) coin signal bit ≡ key-count f.signal f.key-bit n coin signal bit
-  key-count-other-bit b =
-      count-more _ n ∙ (ap (λ t. key-count f.signal f.key-bit n coin signal bit + cond t 1 0) (and_right _ _ (ne_eqb _ _ b)) ∙ add-zero _)
+  pub key_count_other_bit : (f.key_bit n coin ≡ bit → ⊥) → key_count f.signal f.key_bit (n + 1) coin signal bit ≡ key_count f.signal f.key_bit n coin signal bit
+  key_count_other_bit b =
+      count_more _ n ∙ (ap (λ t. key_count f.signal f.key_bit n coin signal bit + cond t 1 0) (and_right _ _ (ne_eqb _ _ b)) ∙ add-zero _)
 
-pub count-within : (passes : ℕ → Bool) (n : ℕ) → count passes n ≤ n
-count-within passes zero = omega arith
-count-within passes (suc n) =
-    let before = count-within passes n in
+pub count_within : (passes : ℕ → Bool) (n : ℕ) → count passes n ≤ n
+count_within passes zero = omega arith
+count_within passes (suc n) =
+    let before = count_within passes n in
     cond_both (passes n) 1 0 (λ m. count passes n + m ≤ suc n) (λ e. omega arith) (λ e. omega arith)
 
 -- the next is either the first so far or the new one, and stands before both
@@ -67,7 +67,7 @@ first_more before along d n m next was old new one = record {
       ⊎_elim
       (λ e. subst (λ y. before next (d y)) (sym e) new)
       (λ l. along next m (d x) old (was.bound x l))
-      (last-or-below n x h);
+      (last_or_below n x h);
   reached =
       ⊎_elim
       (λ e. (was.reached.0, omega (arith, was.reached.1), was.reached.2 ∙ sym e))
@@ -78,17 +78,17 @@ first_more before along d n m next was old new one = record {
 ≤ℤ-along : (a b c : ℤ) → a ≤ℤ b → b ≤ℤ c → a ≤ℤ c
 ≤ℤ-along a b c p q = omega (arith, ints)
 
-minZ-one : (a b : ℤ) → (int_min a b ≡ a) ⊎ (int_min a b ≡ b)
-minZ-one a b = ⊎_elim inr inl (cases_cond (lt_z b a) b a (int_min a b) refl)
+minZ_one : (a b : ℤ) → (int_min a b ≡ a) ⊎ (int_min a b ≡ b)
+minZ_one a b = ⊎_elim inr inl (cases_cond (lt_z b a) b a (int_min a b) refl)
 
-maxZ-one : (a b : ℤ) → (int_max a b ≡ a) ⊎ (int_max a b ≡ b)
-maxZ-one a b = cases_cond (lt_z b a) a b (int_max a b) refl
+maxZ_one : (a b : ℤ) → (int_max a b ≡ a) ⊎ (int_max a b ≡ b)
+maxZ_one a b = cases_cond (lt_z b a) a b (int_max a b) refl
 
-pub surveyed-more : (k : Numbers) (f : Functions) (n : ℕ) (s : RoundingSurvey) → Surveyed k f n s → Surveyed k f (n + 1) (widened s (distance f n) (tie k f n))
-surveyed-more k f n s was =
+pub surveyed_more : (k : Numbers) (f : Functions) (n : ℕ) (s : RoundingSurvey) → Surveyed k f n s → Surveyed k f (n + 1) (widened s (distance f n) (tie k f n))
+surveyed_more k f n s was =
     let d = distance f n in
     record {
-      least = first_more (λ a b. a ≤ℤ b) ≤ℤ-along (distance f) n s.least (int_min s.least d) was.least (omega (arith, ints, clamps)) (omega (arith, ints, clamps)) (minZ-one s.least d);
-      largest = first_more (λ a b. b ≤ℤ a) (λ a b c p q. ≤ℤ-along c b a q p) (distance f) n s.largest (int_max s.largest d) was.largest (omega (arith, ints, clamps)) (omega (arith, ints, clamps)) (maxZ-one s.largest d);
-      ties = ap (λ m. m + cond (tie k f n) 1 0) was.ties ∙ sym (count-more (tie k f) n);
+      least = first_more (λ a b. a ≤ℤ b) ≤ℤ-along (distance f) n s.least (int_min s.least d) was.least (omega (arith, ints, clamps)) (omega (arith, ints, clamps)) (minZ_one s.least d);
+      largest = first_more (λ a b. b ≤ℤ a) (λ a b c p q. ≤ℤ-along c b a q p) (distance f) n s.largest (int_max s.largest d) was.largest (omega (arith, ints, clamps)) (omega (arith, ints, clamps)) (maxZ_one s.largest d);
+      ties = ap (λ m. m + cond (tie k f n) 1 0) was.ties ∙ sym (count_more (tie k f) n);
     }

@@ -4,7 +4,7 @@ use Rattle.std.specs.Int.{int_min, int_max}
 use Rattle.ring.specs.declared.fault.Fault.{Fault}
 use Rattle.ring.specs.declared.fault.Fault.TheVariants.{OutOfRange, CoinOutOfRange}
 use Rattle.profile.specs.Counts.{count}
-use Rattle.profile.specs.Laws.{Functions, key-count}
+use Rattle.profile.specs.Laws.{Functions, key_count}
 use Rattle.profile.specs.declared.numbers.Numbers.{Numbers}
 use Rattle.survey.specs.declared.rounding.RoundingSurvey.{RoundingSurvey}
 use Rattle.survey.specs.declared.keys.KeyCounts.{KeyCounts}
@@ -38,14 +38,14 @@ pub record Surveyed (k : Numbers) (f : Functions) (n : ℕ) (s : RoundingSurvey)
 abbrev pub widened : RoundingSurvey → ℤ → Bool → RoundingSurvey
 widened s d tied = record { least = int_min s.least d; largest = int_max s.largest d; ties = s.ties + cond tied 1 0 }
 
-abbrev pub rounding-answer : Numbers → Functions → Result RoundingSurvey Fault → Type 0
-rounding-answer k f (Ok s) = Surveyed k f k.q s
-rounding-answer k f (Err fault) = ⊥
+abbrev pub rounding_answer : Numbers → Functions → Result RoundingSurvey Fault → Type 0
+rounding_answer k f (Ok s) = Surveyed k f k.q s
+rounding_answer k f (Err fault) = ⊥
 
-abbrev pub keys-answer : Numbers → Functions → ℕ → ℕ → Result KeyCounts Fault
-keys-answer k f coin signal =
+abbrev pub keys_answer : Numbers → Functions → ℕ → ℕ → Result KeyCounts Fault
+keys_answer k f coin signal =
     cond (nat_lt signal (2 ^ k.signal_width))
     (cond (nat_lt coin k.coins)
-    (Ok (record { zeros = key-count f.signal f.key-bit k.q coin signal 0; ones = key-count f.signal f.key-bit k.q coin signal 1 }))
+    (Ok (record { zeros = key_count f.signal f.key_bit k.q coin signal 0; ones = key_count f.signal f.key_bit k.q coin signal 1 }))
     (Err (CoinOutOfRange 0)))
     (Err (OutOfRange 0))

@@ -1,6 +1,6 @@
 // How a signal divides the residues of a profile between the two key bits.
 ghost use Rattle.std.specs.Prelude.{◌≡◌, ◌-◌, ◌^◌};
-ghost use Rattle.survey.specs.Surveys.{keys-answer};
+ghost use Rattle.survey.specs.Surveys.{keys_answer};
 
 use profile::Profile;
 use ring::Fault;
@@ -27,7 +27,7 @@ pub fn last_signal<P: Profile>() -> u8
 
 // How many residues a coin gives this signal with key bit 0, and how many with key bit 1.
 pub fn count_keys<P: Profile>(coin: u8, signal: u8) -> Result<KeyCounts, Fault>
-    ensures { result ≡ keys-answer P.Profile.numbers P.Profile.functions coin signal }
+    ensures { result ≡ keys_answer P.Profile.numbers P.Profile.functions coin signal }
 {
     let k = P::stated();
     if u32::from(signal) >= 1 << k.signal_width {

@@ -1,4 +1,6 @@
 // Measures a profile by going through every residue.
+#![tactic(auto)]
+
 mod keys;
 mod rounding;
 

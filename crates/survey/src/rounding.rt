@@ -1,6 +1,6 @@
 // How far rounding moves the residues of a profile.
 ghost use Rattle.std.specs.Prelude.{◌≡◌, ◌^◌, ◌<◌, Ok};
-ghost use Rattle.survey.specs.Surveys.{distance, tie, rounding-answer, widened};
+ghost use Rattle.survey.specs.Surveys.{distance, tie, rounding_answer, widened};
 
 use profile::Profile;
 use ring::Fault;
@@ -49,7 +49,7 @@ fn widen(survey: RoundingSurvey, one: Rounded) -> RoundingSurvey
 
 // Rounds and recovers every residue.
 pub fn survey_rounding<P: Profile>() -> Result<RoundingSurvey, Fault>
-    ensures { rounding-answer P.Profile.numbers P.Profile.functions result }
+    ensures { rounding_answer P.Profile.numbers P.Profile.functions result }
 {
     let Rounded { distance, tie } = round_one::<P>(0)?;
     let mut survey = RoundingSurvey {

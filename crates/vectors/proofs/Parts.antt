@@ -4,11 +4,11 @@ use Rattle.std.proofs.lemmas.List.{take_rest, length-take, length-drop}
 use Rattle.element.specs.Products.{product}
 use Rattle.keccak.specs.Sponge.{shake128}
 use Rattle.source.specs.Derivation.{derived}
-use Rattle.exports.specs.ByProfile.{by-profile}
+use Rattle.exports.specs.ByProfile.{by_profile}
 use Rattle.vectors.specs.Holding.{part, OutputHolds, ProductHolds, DerivedHolds}
 
-pub not-both : (b : Bool) → b ≡ false → b ≡ true → ⊥
-not-both b no-is yes-is = let z : ◌≡◌ {A = ℕ} 0 1 = cc in omega arith
+pub not_both : (b : Bool) → b ≡ false → b ≡ true → ⊥
+not_both b no-is yes-is = let z : ◌≡◌ {A = ℕ} 0 1 = cc in omega arith
 
 -- what follows the first two numbers, as a slice pattern has it
 abbrev rest : List ℕ → List ℕ
@@ -19,13 +19,13 @@ cut line from end before many same size =
     ap₂ (λ (a b : ℕ). take b (drop a (rest line))) same size ∙ ap (λ (xs : List ℕ). take many (drop before xs)) (take_rest line 2)
 
 module _ (line : List ℕ) where
-  pub output-holds : (m d size : ℕ) (message expected : List ℕ) → m ≡ get_or line 0 0 → d ≡ get_or line 1 0 → message ≡ take (m - 0) (drop 0 (rest line)) → expected ≡ take (m + d - m) (drop m (rest line)) → size ≡ d → shake128 message size ≡ expected → OutputHolds line
-  output-holds m d size message expected m-is d-is message-is expected-is size_is holds =
+  pub output_holds : (m d size : ℕ) (message expected : List ℕ) → m ≡ get_or line 0 0 → d ≡ get_or line 1 0 → message ≡ take (m - 0) (drop 0 (rest line)) → expected ≡ take (m + d - m) (drop m (rest line)) → size ≡ d → shake128 message size ≡ expected → OutputHolds line
+  output_holds m d size message expected m-is d-is message-is expected-is size_is holds =
       ap₂ (λ (xs : List ℕ) (k : ℕ). shake128 xs k) (sym (message-is ∙ cut line 0 m 0 (get_or line 0 0) (omega arith) (omega arith))) (sym (size_is ∙ d-is))
       ∙ holds ∙ expected-is ∙ cut line m (m + d) (get_or line 0 0) (get_or line 1 0) m-is (omega arith)
 
-  pub product-holds : (n q : ℕ) (left right expected : List ℕ) → n ≡ get_or line 0 0 → q ≡ get_or line 1 0 → length (rest line) ≡ 3 * n → left ≡ take (n - 0) (drop 0 (rest line)) → right ≡ take (2 * n - n) (drop n (rest line)) → expected ≡ take (3 * n - 2 * n) (drop (2 * n) (rest line)) → product (length left) q left right ≡ expected → ProductHolds line
-  product-holds n q left right expected n-is q-is long left_is right_is expected-is holds =
+  pub product_holds : (n q : ℕ) (left right expected : List ℕ) → n ≡ get_or line 0 0 → q ≡ get_or line 1 0 → length (rest line) ≡ 3 * n → left ≡ take (n - 0) (drop 0 (rest line)) → right ≡ take (2 * n - n) (drop n (rest line)) → expected ≡ take (3 * n - 2 * n) (drop (2 * n) (rest line)) → product (length left) q left right ≡ expected → ProductHolds line
+  product_holds n q left right expected n-is q-is long left_is right_is expected-is holds =
       let n0 = get_or line 0 0 in
       let left-part : left ≡ part line 0 n0 = left_is ∙ cut line 0 n 0 n0 (omega arith) (omega arith) in
       let right-part : right ≡ part line n0 n0 = right_is ∙ cut line n (2 * n) n0 n0 n-is (omega arith) in
@@ -33,8 +33,8 @@ module _ (line : List ℕ) where
       let size : length left ≡ n0 = ap length left_is ∙ omega (arith, length-take (n - 0) (drop 0 (rest line)), length-drop 0 (rest line)) in
       cc
 
-  pub derived-holds : (profile n : ℕ) (seed expected : List ℕ) → profile ≡ get_or line 0 0 → n ≡ get_or line 1 0 → seed ≡ take (16 - 0) (drop 0 (rest line)) → expected ≡ take (16 + n - 16) (drop 16 (rest line)) → by-profile (λ k _. derived k.n k.q (shake128 seed 4032)) [] profile ≡ expected → DerivedHolds line
-  derived-holds profile n seed expected profile-is n-is seed-is expected-is holds =
+  pub derived_holds : (profile n : ℕ) (seed expected : List ℕ) → profile ≡ get_or line 0 0 → n ≡ get_or line 1 0 → seed ≡ take (16 - 0) (drop 0 (rest line)) → expected ≡ take (16 + n - 16) (drop 16 (rest line)) → by_profile (λ k _. derived k.n k.q (shake128 seed 4032)) [] profile ≡ expected → DerivedHolds line
+  derived_holds profile n seed expected profile-is n-is seed-is expected-is holds =
       let seed-part : seed ≡ part line 0 16 = seed-is ∙ cut line 0 16 0 16 refl refl in
-      ap₂ (λ (bytes : List ℕ) (p : ℕ). by-profile (λ k _. derived k.n k.q (shake128 bytes 4032)) [] p) (sym seed-part) (sym profile-is)
+      ap₂ (λ (bytes : List ℕ) (p : ℕ). by_profile (λ k _. derived k.n k.q (shake128 bytes 4032)) [] p) (sym seed-part) (sym profile-is)
       ∙ holds ∙ expected-is ∙ cut line 16 (16 + n) 16 (get_or line 1 0) refl (omega arith)

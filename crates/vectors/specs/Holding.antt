@@ -2,10 +2,10 @@
 use Rattle.std.specs.Prelude.{◌≡◌, ℕ, ◌+◌, ◌*◌, List, [], take, drop, slice_index}
 use Rattle.element.specs.Products.{product}
 use Rattle.keccak.specs.Sponge.{shake128}
-use Rattle.profile.specs.Answers.{round-answer, recover-answer, reconcile-answer, read_answer}
+use Rattle.profile.specs.Answers.{round_answer, recover_answer, reconcile_answer, read_answer}
 use Rattle.source.specs.Derivation.{derived}
-use Rattle.exports.specs.ByProfile.{by-profile}
-use Rattle.exports.specs.Codes.{value-code, pair_code, no_call}
+use Rattle.exports.specs.ByProfile.{by_profile}
+use Rattle.exports.specs.Codes.{value_code, pair_code, no_call}
 use Rattle.vectors.specs.declared.line.Group.{Group}
 use Rattle.vectors.specs.declared.line.Group.TheVariants.{Published, Output, Product, Derived, Rounded, Reconciled, Read}
 
@@ -29,22 +29,22 @@ ProductHolds line =
 -- a profile, n, a seed and its element
 abbrev pub DerivedHolds : List ℕ → Type 0
 DerivedHolds line =
-    by-profile (λ k _. derived k.n k.q (shake128 (part line 0 16) 4032)) [] (number line 0) ≡ part line 16 (number line 1)
+    by_profile (λ k _. derived k.n k.q (shake128 (part line 0 16) 4032)) [] (number line 0) ≡ part line 16 (number line 1)
 
 -- a profile, a residue, its rounded value, and what that recovers to
 abbrev pub RoundedHolds : List ℕ → Type 0
 RoundedHolds line =
-    (by-profile (λ k f. value-code (round-answer k f (number line 1))) no_call (number line 0) ≡ number line 2)
-    × (by-profile (λ k f. value-code (recover-answer k f (number line 2))) no_call (number line 0) ≡ number line 3)
+    (by_profile (λ k f. value_code (round_answer k f (number line 1))) no_call (number line 0) ≡ number line 2)
+    × (by_profile (λ k f. value_code (recover_answer k f (number line 2))) no_call (number line 0) ≡ number line 3)
 
 -- a profile, a residue, a coin, and their signal and key bit
 abbrev pub ReconciledHolds : List ℕ → Type 0
 ReconciledHolds line =
-    by-profile (λ k f. pair_code (reconcile-answer k f (number line 1) (number line 2))) no_call (number line 0) ≡ 2 * number line 3 + number line 4
+    by_profile (λ k f. pair_code (reconcile_answer k f (number line 1) (number line 2))) no_call (number line 0) ≡ 2 * number line 3 + number line 4
 
 -- a profile, a residue, a signal, and the key bit that is read
 abbrev pub ReadHolds : List ℕ → Type 0
-ReadHolds line = by-profile (λ k f. value-code (read_answer k f (number line 1) (number line 2))) no_call (number line 0) ≡ number line 3
+ReadHolds line = by_profile (λ k f. value_code (read_answer k f (number line 1) (number line 2))) no_call (number line 0) ≡ number line 3
 
 abbrev pub Holds : Group → List ℕ → Type 0
 Holds Published line = OutputHolds line

@@ -1,7 +1,7 @@
 // Whether a vector holds of the library.
 ghost use Rattle.std.specs.Prelude.{◌≡◌, ◌≤◌, true, [], length, IfOk};
 ghost use Rattle.element.specs.Products.{product};
-ghost use Rattle.exports.specs.ByProfile.{by-profile};
+ghost use Rattle.exports.specs.ByProfile.{by_profile};
 ghost use Rattle.keccak.specs.Sponge.{shake128};
 ghost use Rattle.source.specs.Derivation.{derived};
 ghost use Rattle.vectors.specs.Holding.{OutputHolds, ProductHolds, DerivedHolds, RoundedHolds, ReconciledHolds, ReadHolds, Holds};
@@ -99,7 +99,7 @@ fn check_product(heap: Global, numbers: &[u32]) -> anyhow::Result<bool>
 
 // Whether a seed gives the expected element.
 fn derives_to(profile: u8, seed: &[u8], expected: &[u32], output: &mut [u32]) -> bool
-    ensures { result ≡ true → by-profile (λ k _. derived k.n k.q (shake128 seed.now 4032)) [] profile ≡ expected.now }
+    ensures { result ≡ true → by_profile (λ k _. derived k.n k.q (shake128 seed.now 4032)) [] profile ≡ expected.now }
 {
     let answer = exported_derive_shake(profile, seed, output);
     answer == 0 && &output[..] == expected

@@ -1,5 +1,7 @@
 // Checks outside vectors, one to a line of the input, and prints for each group how many there were. The first that does not
 // hold ends the program with an error.
+#![tactic(auto)]
+
 mod checks;
 mod hex;
 mod line;

@@ -8,8 +8,8 @@ pub overflow-mul-formula : goal.overflow-mul-formula
 overflow-mul-formula g c =
     let q = c.stated-2.result.q in
     let times = c.stated.result.tolerance.times in
-    let times-most : times ≤ 16 =
-    omega (arith, ap (λ (k : ReconcilerNumbers). k.tolerance.times) c.stated.ensures, g.met.K.Reconciler.sound.small.times-most) in
+    let times_most : times ≤ 16 =
+    omega (arith, ap (λ (k : ReconcilerNumbers). k.tolerance.times) c.stated.ensures, g.met.K.Reconciler.sound.small.times_most) in
     let q-most : q ≤ 2 ^ 23 =
     omega (arith, ap (λ (s : Sizes). s.q) c.stated-2.ensures, g.met.S.NumberSet.admissible.modulus.below) in
-    omega (arith, mul-le times q 16 (2 ^ 23) times-most q-most)
+    omega (arith, mul-le times q 16 (2 ^ 23) times_most q-most)

@@ -1,18 +1,18 @@
-use Rattle.reconcile.specs.DingLaws.{ding-sound}
-use Rattle.reconcile.specs.OkcnLaws.{okcn-sound}
-use Rattle.house.specs.AdmissibleSets.{admissible-t, admissible-s, admissible-w}
-use Rattle.house.specs.Lawfulness.{house-lawful}
+use Rattle.reconcile.specs.DingLaws.{ding_sound}
+use Rattle.reconcile.specs.OkcnLaws.{okcn_sound}
+use Rattle.house.specs.AdmissibleSets.{admissible_t, admissible_s, admissible_w}
+use Rattle.house.specs.Lawfulness.{house_lawful}
 use Rattle.house.proofs.theorems.house_profiles.Goals as goal
 
 pub returns : goal.returns
 returns c = record {
   rows = cc;
   lawful = record {
-    t-ding-lawful = house-lawful _ _ _ admissible-t ding-sound;
-    t-okcn-lawful = house-lawful _ _ _ admissible-t okcn-sound;
-    s-ding-lawful = house-lawful _ _ _ admissible-s ding-sound;
-    s-okcn-lawful = house-lawful _ _ _ admissible-s okcn-sound;
-    w-ding-lawful = house-lawful _ _ _ admissible-w ding-sound;
-    w-okcn-lawful = house-lawful _ _ _ admissible-w okcn-sound;
+    t_ding_lawful = house_lawful _ _ _ admissible_t ding_sound;
+    t_okcn_lawful = house_lawful _ _ _ admissible_t okcn_sound;
+    s_ding_lawful = house_lawful _ _ _ admissible_s ding_sound;
+    s_okcn_lawful = house_lawful _ _ _ admissible_s okcn_sound;
+    w_ding_lawful = house_lawful _ _ _ admissible_w ding_sound;
+    w_okcn_lawful = house_lawful _ _ _ admissible_w okcn_sound;
   };
 }

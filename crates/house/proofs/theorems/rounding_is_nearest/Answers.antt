@@ -1,5 +1,5 @@
-use Rattle.house.specs.Roundings.{recover-is, round_is}
+use Rattle.house.specs.Roundings.{recover_is, round_is}
 use Rattle.house.proofs.theorems.rounding_is_nearest.Goals as goal
 
 pub returns : goal.returns
-returns c = λ q p step parts less either. (recover-is q p step parts less either, round_is q p step parts less either)
+returns c = λ q p step parts less either. (recover_is q p step parts less either, round_is q p step parts less either)

@@ -1,5 +1,5 @@
-use Rattle.house.specs.Roundings.{tied-midway, midway-tied}
+use Rattle.house.specs.Roundings.{tied_midway, midway_tied}
 use Rattle.house.proofs.theorems.tie_is_midway.Goals as goal
 
 pub returns : goal.returns
-returns c = λ q p step parts less either x. (tied-midway q p step parts less either x, midway-tied q p step parts less either x)
+returns c = λ q p step parts less either x. (tied_midway q p step parts less either x, midway_tied q p step parts less either x)

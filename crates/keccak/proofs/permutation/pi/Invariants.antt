@@ -1,10 +1,10 @@
 use Rattle.std.proofs.Common.{◌+◌, ◌*◌}
-use Rattle.keccak.specs.Permutation.{pi-lane}
+use Rattle.keccak.specs.Permutation.{pi_lane}
 use Rattle.keccak.proofs.Fills.{Filled}
 use Rattle.keccak.proofs.permutation.pi.Given as goal
 
 abbrev pub invariant-loop-x : goal.invariant-loop-x
-invariant-loop-x l = Filled (pi-lane l.lanes) l.out (l.x + 5 * l.y)
+invariant-loop-x l = Filled (pi_lane l.lanes) l.out (l.x + 5 * l.y)
 
 abbrev pub invariant-loop-y : goal.invariant-loop-y
-invariant-loop-y l = Filled (pi-lane l.lanes) l.out (5 * l.y)
+invariant-loop-y l = Filled (pi_lane l.lanes) l.out (5 * l.y)

@@ -1,10 +1,10 @@
 use Rattle.std.proofs.Common.{◌+◌, ◌*◌}
-use Rattle.keccak.specs.Permutation.{rho-lane}
+use Rattle.keccak.specs.Permutation.{rho_lane}
 use Rattle.keccak.proofs.Fills.{Filled}
 use Rattle.keccak.proofs.permutation.rho.Given as goal
 
 abbrev pub invariant-loop-x : goal.invariant-loop-x
-invariant-loop-x l = Filled (rho-lane l.lanes) l.out (l.x + 5 * l.y)
+invariant-loop-x l = Filled (rho_lane l.lanes) l.out (l.x + 5 * l.y)
 
 abbrev pub invariant-loop-y : goal.invariant-loop-y
-invariant-loop-y l = Filled (rho-lane l.lanes) l.out (5 * l.y)
+invariant-loop-y l = Filled (rho_lane l.lanes) l.out (5 * l.y)

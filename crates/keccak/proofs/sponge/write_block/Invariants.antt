@@ -1,10 +1,10 @@
 use Rattle.std.proofs.Common.{◌+◌, ◌*◌}
-use Rattle.keccak.specs.Sponge.{output-byte}
+use Rattle.keccak.specs.Sponge.{output_byte}
 use Rattle.keccak.proofs.Fills.{Listed}
 use Rattle.keccak.proofs.sponge.write_block.Given as goal
 
 abbrev pub invariant-loop-i : goal.invariant-loop-i
-invariant-loop-i l = Listed (output-byte l.lanes) 168 l.block (8 * l.i)
+invariant-loop-i l = Listed (output_byte l.lanes) 168 l.block (8 * l.i)
 
 abbrev pub invariant-loop-j : goal.invariant-loop-j
-invariant-loop-j l = Listed (output-byte l.lanes) 168 l.block (8 * l.i + l.j)
+invariant-loop-j l = Listed (output_byte l.lanes) 168 l.block (8 * l.i + l.j)

@@ -1,6 +1,6 @@
 use Rattle.std.proofs.Common.{◌≡◌, ℕ, ◌+◌, ◌<◌, List, length, get_or, ap, ◌∙◌, arith}
 use Rattle.std.proofs.lemmas.List.{length-drop}
-use Rattle.source.proofs.Groups.{or_byte, or-byte-below, ahead_more, group-more}
+use Rattle.source.proofs.Groups.{or_byte, or_byte_below, ahead_more, group_more}
 use Rattle.source.proofs.group.next_number.Goals as goal
 
 pub returns-in-err-byte : goal.returns-in-err-byte
@@ -34,6 +34,6 @@ loop-i-preserved g c =
       f.reads ∙ inv.1,
       omega (arith, f.gives.moves, inv.2),
       omega (arith, ahead_more bytes position i inside),
-      or_byte number b i inv.5 byte few ∙ group-more bytes position i inside number b inv.4 at,
-      or-byte-below number b i inv.5 byte few,
+      or_byte number b i inv.5 byte few ∙ group_more bytes position i inside number b inv.4 at,
+      or_byte_below number b i inv.5 byte few,
     )

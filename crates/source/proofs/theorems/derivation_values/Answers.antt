@@ -6,8 +6,8 @@ use Rattle.source.proofs.theorems.derivation_values.Goals as goal
 pub returns : goal.returns
 unfolding bits groups candidates kept
 returns c = record {
-  groups-t = record { bits_are = sym (bits_is 256 9 (omega arith) (omega arith)); bytes-are = refl };
-  groups-s = record { bits_are = sym (bits_is 12288 14 (omega arith) (omega arith)); bytes-are = refl };
-  groups-w = record { bits_are = sym (bits_is 8380416 23 (omega arith) (omega arith)); bytes-are = refl };
-  element-t = refl;
+  groups_t = record { bits_are = sym (bits_is 256 9 (omega arith) (omega arith)); bytes_are = refl };
+  groups_s = record { bits_are = sym (bits_is 12288 14 (omega arith) (omega arith)); bytes_are = refl };
+  groups_w = record { bits_are = sym (bits_is 8380416 23 (omega arith) (omega arith)); bytes_are = refl };
+  element_t = refl;
 }

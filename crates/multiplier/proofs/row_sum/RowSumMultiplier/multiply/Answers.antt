@@ -15,6 +15,6 @@ write-product-requires c =
     let fit = accepted ring.degree ring.modulus.q _ left right scratch output ok in
     record {
       factors = rw c.modulus.ensures (factors ring _ left right scratch output ok);
-      words_long = simp length-take (omega (arith, c.scratch-words-need.ensures, fit.left-long, fit.scratch-long));
-      output-long = fit.output-long ∙ sym fit.left-long;
+      words_long = simp length-take (omega (arith, c.scratch-words-need.ensures, fit.left_long, fit.scratch_long));
+      output_long = fit.output_long ∙ sym fit.left_long;
     }

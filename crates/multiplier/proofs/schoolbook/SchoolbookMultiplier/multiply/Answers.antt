@@ -10,4 +10,4 @@ write-product-requires c =
     let right = c.args.right.now in
     let ok = c.in-ok-check.ensures in
     let fit = accepted ring.degree ring.modulus.q 0 left right (length c.args.scratch.now) (length c.args.output.now) ok in
-    record { long = fit.output-long ∙ sym fit.left-long; factors = rw c.modulus.ensures (factors ring 0 left right (length c.args.scratch.now) (length c.args.output.now) ok) }
+    record { long = fit.output_long ∙ sym fit.left_long; factors = rw c.modulus.ensures (factors ring 0 left right (length c.args.scratch.now) (length c.args.output.now) ok) }

@@ -1,6 +1,6 @@
 use Rattle.std.proofs.Common.{◌≡◌, ◌≤◌, length, pos, nat_abs, vec_items, sym, subst, arith, rules}
 use Rattle.std.proofs.ByRecursion.{All-from_get_or}
-use Rattle.profile.specs.Places.{place-bounds}
+use Rattle.profile.specs.Places.{place_bounds}
 use Rattle.profile.specs.Secrets.{LawfulSecret}
 use Rattle.profile.proofs.holding.PlaceSecretPlace.secret.Goals as goal
 
@@ -10,9 +10,9 @@ returns-then-self g c =
     let s = c.args.self.now in
     let xs = vec_items s.coefficients in
     let filled = c.if-self.true in
-    let lawful : LawfulSecret (place-bounds g.row.N g.row.E g.row.L) xs = record {
+    let lawful : LawfulSecret (place_bounds g.row.N g.row.E g.row.L) xs = record {
       long = omega arith;
       small = All-from_get_or (λ x. nat_abs x ≤ g.row.E) xs (pos 0) (λ k lt. s.small filled k (omega arith));
       light = s.light filled;
     } in
-    record { shows = search rules; lawful = subst (LawfulSecret (place-bounds g.row.N g.row.E g.row.L)) (sym c.as-slice.ensures.value) lawful }
+    record { shows = search rules; lawful = subst (LawfulSecret (place_bounds g.row.N g.row.E g.row.L)) (sym c.as-slice.ensures.value) lawful }

@@ -1,39 +1,39 @@
 use Rattle.std.proofs.Common.{◌≡◌, ℕ, ◌/◌, ◌<◌, ℤ, pos, ◌+ℤ◌, ◌-ℤ◌, Ok, Err, sym, ap, ◌∙◌, arith, w32, to_z, of_z}
 use Rattle.std.proofs.lemmas.Int.{ints}
 use Rattle.std.proofs.lemmas.Bool.Decides.{nat_tests}
-use Rattle.ring.specs.Residues.{signed, signed-answer}
+use Rattle.ring.specs.Residues.{signed, signed_answer}
 use Rattle.ring.specs.declared.fault.Fault.{Fault}
-use Rattle.profile.specs.Answers.{reconciled, key-bit-read}
-use Rattle.reconcile.specs.Ding.{ding-signal, ding-read, ding-functions}
-use Rattle.reconcile.specs.DingLaws.{region-signal, signal-inside, signal-under, signal-over, signal-at}
+use Rattle.profile.specs.Answers.{reconciled, key_bit_read}
+use Rattle.reconcile.specs.Ding.{ding_signal, ding_read, ding_functions}
+use Rattle.reconcile.specs.DingLaws.{region_signal, signal_inside, signal_under, signal_over, signal_at}
 use Rattle.reconcile.proofs.ding.DingReconciler.reconcile.Goals as goal
 use Rattle.reconcile.proofs.ding.DingReconciler.reconcile.Goals.{in-0, in-0-2, in-0-2·2, in-1, in-1-2, in-1-2·2}
 
 -- what a signed form that is answered tells of the residue
-module _ (q x : ℕ) (s : ℤ) (e : Ok s ≡ signed-answer q x) where
-  answered-below : x < q
-  answered-below = grind (arith, nat_tests)
+module _ (q x : ℕ) (s : ℤ) (e : Ok s ≡ signed_answer q x) where
+  answered_below : x < q
+  answered_below = grind (arith, nat_tests)
 
-  answered-signed : s ≡ signed q x
-  answered-signed = grind (arith, nat_tests)
+  answered_signed : s ≡ signed q x
+  answered_signed = grind (arith, nat_tests)
 
 module _ (q x signal : ℕ) (below : x < q) where
-  never-refused : (f : Fault) → signal < 2 → Err f ≡ key-bit-read q 1 (ding-read q) x signal → ⊥
-  never-refused f small e = grind (arith, nat_tests)
+  never_refused : (f : Fault) → signal < 2 → Err f ≡ key_bit_read q 1 (ding_read q) x signal → ⊥
+  never_refused f small e = grind (arith, nat_tests)
 
-  both-answered : (coin bit : ℕ) → coin < 2 → signal ≡ ding-signal q x coin → Ok bit ≡ key-bit-read q 1 (ding-read q) x signal → Ok (signal, bit) ≡ reconciled q 2 (ding-signal q) (ding-functions.key-bit q) x coin
-  both-answered coin bit small e f = grind (arith, nat_tests)
+  both_answered : (coin bit : ℕ) → coin < 2 → signal ≡ ding_signal q x coin → Ok bit ≡ key_bit_read q 1 (ding_read q) x signal → Ok (signal, bit) ≡ reconciled q 2 (ding_signal q) (ding_functions.key_bit q) x coin
+  both_answered coin bit small e f = grind (arith, nat_tests)
 
 -- an i32, as the code holds it
 abbrev held : ℤ → ℤ
 held z = to_z w32 (of_z w32 z)
 
-same-signal : {a b s a' b' s' : ℤ} → a ≡ a' → b ≡ b' → s ≡ s' → region-signal a b s ≡ region-signal a' b' s'
-same-signal e f g = cc
+same_signal : {a b s a' b' s' : ℤ} → a ≡ a' → b ≡ b' → s ≡ s' → region_signal a b s ≡ region_signal a' b' s'
+same_signal e f g = cc
 
 pub returns-in-err-bit : goal.returns-in-err-bit
 returns-in-err-bit c =
-    let below = answered-below _ _ _ c.in-ok-s.ensures.value in
+    let below = answered_below _ _ _ c.in-ok-s.ensures.value in
     let small : c.match-coin.signal < 2 =
     elim c.match-coin.branch [
       | in-0 w ↦ omega (arith, w.signal-is)
@@ -43,7 +43,7 @@ returns-in-err-bit c =
       | in-1-2 w ↦ omega (arith, w.signal-is)
       | in-1-2·2 w ↦ omega (arith, w.signal-is)
     ] in
-    absurd (never-refused _ _ _ below _ small c.in-err-bit.ensures)
+    absurd (never_refused _ _ _ below _ small c.in-err-bit.ensures)
 
 pub returns : goal.returns
 returns c =
@@ -57,19 +57,19 @@ returns c =
     let low-0 : ℤ = held (pos 0 -ℤ r) in
     let low-1 : ℤ = held (low-0 +ℤ pos 1) in
     let high-1 : ℤ = held (r +ℤ pos 1) in
-    let by-0 : coin ≡ 0 → c.match-coin.signal ≡ region-signal low-0 r at → (coin < 2) × (c.match-coin.signal ≡ signal-at q coin s) =
-    λ e f. (omega arith, f ∙ same-signal (omega (arith, ints)) (omega (arith, ints)) at-is) in
-    let by-1 : coin ≡ 1 → c.match-coin.signal ≡ region-signal low-1 high-1 at → (coin < 2) × (c.match-coin.signal ≡ signal-at q coin s) =
-    λ e f. (omega arith, f ∙ same-signal (omega (arith, ints)) (omega (arith, ints)) at-is) in
-    let way : (coin < 2) × (c.match-coin.signal ≡ signal-at q coin s) =
+    let by-0 : coin ≡ 0 → c.match-coin.signal ≡ region_signal low-0 r at → (coin < 2) × (c.match-coin.signal ≡ signal_at q coin s) =
+    λ e f. (omega arith, f ∙ same_signal (omega (arith, ints)) (omega (arith, ints)) at-is) in
+    let by-1 : coin ≡ 1 → c.match-coin.signal ≡ region_signal low-1 high-1 at → (coin < 2) × (c.match-coin.signal ≡ signal_at q coin s) =
+    λ e f. (omega arith, f ∙ same_signal (omega (arith, ints)) (omega (arith, ints)) at-is) in
+    let way : (coin < 2) × (c.match-coin.signal ≡ signal_at q coin s) =
     elim c.match-coin.branch [
-      | in-0 w ↦ by-0 w.in-0.is (w.signal-is ∙ sym (signal-inside low-0 r at w.if-r-s.true w.if-s-r.true))
-      | in-0-2 w ↦ by-0 w.in-0.is (w.signal-is ∙ sym (signal-over low-0 r at w.if-s-r.false))
-      | in-0-2·2 w ↦ by-0 w.in-0.is (w.signal-is ∙ sym (signal-under low-0 r at w.if-r-s.false))
-      | in-1 w ↦ by-1 w.in-1.is (w.signal-is ∙ sym (signal-inside low-1 high-1 at w.if-r-s-2.true w.if-s-r-2.true))
-      | in-1-2 w ↦ by-1 w.in-1.is (w.signal-is ∙ sym (signal-over low-1 high-1 at w.if-s-r-2.false))
-      | in-1-2·2 w ↦ by-1 w.in-1.is (w.signal-is ∙ sym (signal-under low-1 high-1 at w.if-r-s-2.false))
+      | in-0 w ↦ by-0 w.in-0.is (w.signal-is ∙ sym (signal_inside low-0 r at w.if-r-s.true w.if-s-r.true))
+      | in-0-2 w ↦ by-0 w.in-0.is (w.signal-is ∙ sym (signal_over low-0 r at w.if-s-r.false))
+      | in-0-2·2 w ↦ by-0 w.in-0.is (w.signal-is ∙ sym (signal_under low-0 r at w.if-r-s.false))
+      | in-1 w ↦ by-1 w.in-1.is (w.signal-is ∙ sym (signal_inside low-1 high-1 at w.if-r-s-2.true w.if-s-r-2.true))
+      | in-1-2 w ↦ by-1 w.in-1.is (w.signal-is ∙ sym (signal_over low-1 high-1 at w.if-s-r-2.false))
+      | in-1-2·2 w ↦ by-1 w.in-1.is (w.signal-is ∙ sym (signal_under low-1 high-1 at w.if-r-s-2.false))
     ] in
-    both-answered q c.args.x c.match-coin.signal (answered-below _ _ _ told) coin _ way.0
-    (way.1 ∙ ap (signal-at q coin) (answered-signed _ _ _ told))
+    both_answered q c.args.x c.match-coin.signal (answered_below _ _ _ told) coin _ way.0
+    (way.1 ∙ ap (signal_at q coin) (answered_signed _ _ _ told))
     c.in-ok-bit.ensures

@@ -2,8 +2,8 @@ use Rattle.std.proofs.Common.{◌≡◌, ℕ, ◌*◌, ◌^◌, ◌<◌, ◌≤�
 use Rattle.std.proofs.lemmas.Int.{ints, to_z-of_z}
 use Rattle.std.proofs.lemmas.Bool.{cond_below}
 use Rattle.ring.specs.declared.fault.Fault.TheVariants.{OutOfRange}
-use Rattle.reconcile.specs.Okcn.{okcn-read}
-use Rattle.reconcile.specs.OkcnLaws.{product-read}
+use Rattle.reconcile.specs.Okcn.{okcn_read}
+use Rattle.reconcile.specs.OkcnLaws.{product_read}
 use Rattle.reconcile.proofs.okcn.OkcnReconciler.read.Goals as goal
 
 -- a number as 32 bits hold it
@@ -14,22 +14,22 @@ module _ (q y v : ℕ) (s : ℤ) (below : q < 2 ^ 23) (h : y < q) (few : v < 4) 
   abbrev product : ℤ
   product = pos q *ℤ (pos 3 -ℤ pos (2 * v))
 
-  product-size : (product +ℤ pos (2 * (v * q)) ≡ pos (3 * q)) × (v * q ≤ 3 * q)
-  product-size = (product-read q v few, mul-le-mul_right q (omega arith))
+  product_size : (product +ℤ pos (2 * (v * q)) ≡ pos (3 * q)) × (v * q ≤ 3 * q)
+  product_size = (product_read q v few, mul-le-mul_right q (omega arith))
 
-  held-product : held (to_z w32 q *ℤ held (pos 3 -ℤ held (pos 2 *ℤ held s))) ≡ product
-  held-product =
+  held_product : held (to_z w32 q *ℤ held (pos 3 -ℤ held (pos 2 *ℤ held s))) ≡ product
+  held_product =
       let left : to_z w32 q ≡ pos q = omega (arith, ints) in
       let right : held (pos 3 -ℤ held (pos 2 *ℤ held s)) ≡ pos 3 -ℤ pos (2 * v) = omega (arith, ints) in
-      let fits : SFits w32 product = omega (arith, ints, product-size) in
+      let fits : SFits w32 product = omega (arith, ints, product_size) in
       let whole : held product ≡ product = to_z-of_z w32 product fits in
       cc
 
   sum_fits : SFits w32 (held (pos 16 *ℤ to_z w32 y) +ℤ held (to_z w32 q *ℤ held (pos 3 -ℤ held (pos 2 *ℤ held s))))
-  sum_fits = omega (arith, ints, product-size, held-product)
+  sum_fits = omega (arith, ints, product_size, held_product)
 
-  held-sum : held (held (pos 16 *ℤ to_z w32 y) +ℤ held (to_z w32 q *ℤ held (pos 3 -ℤ held (pos 2 *ℤ held s)))) ≡ pos (16 * y) +ℤ product
-  held-sum = omega (arith, ints, product-size, held-product)
+  held_sum : held (held (pos 16 *ℤ to_z w32 y) +ℤ held (to_z w32 q *ℤ held (pos 3 -ℤ held (pos 2 *ℤ held s)))) ≡ pos (16 * y) +ℤ product
+  held_sum = omega (arith, ints, product_size, held_product)
 
 pub overflow-add-y : goal.overflow-add-y
 overflow-add-y c = sum_fits c.value-q.result c.args.y c.args.signal c.from-signal.result (omega arith) (omega arith) (omega arith) c.from-signal.ensures
@@ -41,9 +41,9 @@ returns c =
     let signal = c.args.signal in
     let floor = c.div-euclid-floor.result in
     let rest = c.rem-euclid.result in
-    let sum = held-sum q y signal c.from-signal.result (omega arith) (omega arith) (omega arith) c.from-signal.ensures in
+    let sum = held_sum q y signal c.from-signal.result (omega arith) (omega arith) (omega arith) c.from-signal.ensures in
     let divisor : held (pos 8 *ℤ to_z w32 q) ≡ pos (8 * q) = omega (arith, ints) in
     let floor-held : held floor ≡ floor = omega (arith, ints) in
     let rest-held : held rest ≡ rest = omega (arith, ints) in
-    let is : nat_abs (held rest) ≡ okcn-read q y signal = cc (c.div-euclid-floor.ensures, c.rem-euclid.ensures.value) in
+    let is : nat_abs (held rest) ≡ okcn_read q y signal = cc (c.div-euclid-floor.ensures, c.rem-euclid.ensures.value) in
     rw (← c.value-q.ensures) (ap Ok is ∙ cond_below signal 4 _ (Err (OutOfRange 0)) (omega arith) ∙ cond_below y q _ (Err (OutOfRange 0)) (omega arith))

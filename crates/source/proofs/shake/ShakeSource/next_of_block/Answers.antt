@@ -1,6 +1,6 @@
 use Rattle.std.proofs.Common.{◌<◌, refl, ⊎_elim, arith}
 use Rattle.std.proofs.lemmas.Bool.{cases_lt}
-use Rattle.source.proofs.Squeezing.{byte_inside, byte-value}
+use Rattle.source.proofs.Squeezing.{byte_inside, byte_value}
 use Rattle.source.proofs.shake.ShakeSource.next_of_block.Goals as goal
 
 pub returns : goal.returns
@@ -11,7 +11,7 @@ returns c =
       reads = refl;
       gives = record {
         inside = byte_inside s.seed s.limit s.blocks s.offset some s.within c.requires;
-        value = byte-value s.seed s.limit s.blocks s.offset some s.within c.requires s.block (s.last some);
+        value = byte_value s.seed s.limit s.blocks s.offset some s.within c.requires s.block (s.last some);
         moves = omega arith;
       };
     }

@@ -1,8 +1,8 @@
 use Rattle.std.proofs.Common.{◌≡◌, ℕ, ◌+◌, ◌-◌, List, sym, ap, ◌∙◌, arith}
 use Rattle.keccak.specs.Laws.{permuted}
-use Rattle.keccak.specs.Permutation.{keccak-f}
-use Rattle.keccak.specs.Sponge.{absorbed, output-block}
-use Rattle.keccak.proofs.Streams.{permuted-more}
+use Rattle.keccak.specs.Permutation.{keccak_f}
+use Rattle.keccak.specs.Sponge.{absorbed, output_block}
+use Rattle.keccak.proofs.Streams.{permuted_more}
 use Rattle.source.proofs.shake.ShakeSource.squeeze_block.Goals as goal
 
 -- the block is that of the state before, and the state is permuted once more
@@ -19,8 +19,8 @@ invariant-of-self c =
           (
             (λ none. absurd (omega arith)),
             (
-              c.squeeze.ensures.state ∙ ap keccak-f s.squeezed ∙ sym (permuted-more s.blocks start),
-              ((λ _. c.squeeze.ensures.output ∙ ap output-block s.squeezed ∙ ap (λ n. output-block (permuted n start)) back), tt),
+              c.squeeze.ensures.state ∙ ap keccak_f s.squeezed ∙ sym (permuted_more s.blocks start),
+              ((λ _. c.squeeze.ensures.output ∙ ap output_block s.squeezed ∙ ap (λ n. output_block (permuted n start)) back), tt),
             ),
           ),
         ),

@@ -1,5 +1,5 @@
 use Rattle.std.proofs.Common.{refl, arith}
-use Rattle.source.proofs.Squeezing.{all-given}
+use Rattle.source.proofs.Squeezing.{all_given}
 use Rattle.source.proofs.shake_bytes.ShakeSourceByteSource.next.Goals as goal
 
 pub returns-then-self : goal.returns-then-self
@@ -8,5 +8,5 @@ returns-then-self c =
     record {
       means = refl;
       reads = refl;
-      gives = record { spent = all-given s.seed s.limit s.blocks s.offset (omega arith) (omega arith); stays = refl };
+      gives = record { spent = all_given s.seed s.limit s.blocks s.offset (omega arith) (omega arith); stays = refl };
     }
