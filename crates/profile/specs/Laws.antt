@@ -52,7 +52,7 @@ module _ (q coins : ℕ) (signal key_bit : ℕ → ℕ → ℕ) where
   Balanced width = (coin v : ℕ) → coin < coins → v < 2 ^ width → (key_count signal key_bit q coin v 0 ≤ key_count signal key_bit q coin v 1 + 1) × (key_count signal key_bit q coin v 1 ≤ key_count signal key_bit q coin v 0 + 1)
 
 pub record Lawful (k : Numbers) (f : Functions) : Type 0 where
-  pub in-range : InRange k
+  pub in_range : InRange k
   pub recover_range : (y : ℕ) → y ≤ k.p → f.recover y < 2 * k.q
   pub signal_range : (x coin : ℕ) → x < k.q → coin < k.coins → f.signal x coin < 2 ^ k.signal_width
   pub bit_range : (x coin : ℕ) → x < k.q → coin < k.coins → f.key_bit x coin < 2

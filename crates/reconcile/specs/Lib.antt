@@ -1,7 +1,4 @@
 pub mod Reconcilers
 pub mod Ding
 pub mod Okcn
-pub mod DingLaws
-pub mod Counts
-pub mod Near
-pub mod OkcnLaws
+pub mod LawProofs

@@ -1,6 +1,6 @@
 // The reconciler of the Ding key exchange: an inner region by one signal bit, and a parity for the key bit.
 ghost use Rattle.reconcile.specs.Ding.{ding_functions, ding_numbers};
-ghost use Rattle.reconcile.specs.DingLaws.{ding_sound};
+ghost use Rattle.reconcile.specs.LawProofs.Ding.{ding_sound};
 
 use crate::reconciler::{Reconciler, ReconcilerNumbers, Tolerance};
 use ring::{Fault, Modulus};

@@ -1,7 +1,7 @@
 // The reconciler OKCN with two key values and four bands.
 ghost use Rattle.std.specs.Prelude.{◌≡◌, ◌*◌, ◌/◌, ◌^◌, ◌<◌};
 ghost use Rattle.reconcile.specs.Okcn.{okcn_numbers, okcn_functions};
-ghost use Rattle.reconcile.specs.OkcnLaws.{okcn_sound};
+ghost use Rattle.reconcile.specs.LawProofs.Okcn.{okcn_sound};
 
 use crate::reconciler::{Reconciler, ReconcilerNumbers, Tolerance};
 use ring::{Fault, Modulus};

@@ -8,7 +8,7 @@ loop-i-preserved c =
     let xs = c.args.coefficients.now in
     let i = c.loop-i.i in
     let fits : SFits w32 (get_or xs i (pos 0)) = search rules in
-    let size : c.from-sum.result ≡ nat_abs (get_or xs i (pos 0)) = c.from-sum.ensures ∙ simp to_z-of_z at c.unsigned-abs.ensures.value in
+    let size : c.from-sum.result ≡ nat_abs (get_or xs i (pos 0)) = c.from-sum.ensures ∙ simp to_z-of_z at c.unsigned_abs.ensures.value in
     (rw size (omega (arith, summing_more xs i c.loop-i.sum c.from-limit.result c.loop-i-test.true (omega arith), c.loop-i.invariant)), c.if-sum-limit.false)
 
 pub returns-then-sum-limit : goal.returns-then-sum-limit
@@ -16,7 +16,7 @@ returns-then-sum-limit c =
     let xs = c.args.coefficients.now in
     let i = c.loop-i.i in
     let fits : SFits w32 (get_or xs i (pos 0)) = search rules in
-    let size : c.from-sum.result ≡ nat_abs (get_or xs i (pos 0)) = c.from-sum.ensures ∙ simp to_z-of_z at c.unsigned-abs.ensures.value in
+    let size : c.from-sum.result ≡ nat_abs (get_or xs i (pos 0)) = c.from-sum.ensures ∙ simp to_z-of_z at c.unsigned_abs.ensures.value in
     rw (← c.from-limit.ensures) (omega (arith, summing_stop xs i c.loop-i.sum c.from-limit.result c.loop-i-test.true (omega arith), c.loop-i.invariant))
 
 pub returns : goal.returns

@@ -5,9 +5,9 @@ use Rattle.ring.specs.Residues.{signed, signed_answer}
 use Rattle.ring.specs.declared.fault.Fault.{Fault}
 use Rattle.profile.specs.Answers.{reconciled, key_bit_read}
 use Rattle.reconcile.specs.Ding.{ding_signal, ding_read, ding_functions}
-use Rattle.reconcile.specs.DingLaws.{region_signal, signal_inside, signal_under, signal_over, signal_at}
+use Rattle.reconcile.specs.LawProofs.Ding.{region_signal, signal_inside, signal_under, signal_over, signal_at}
 use Rattle.reconcile.proofs.ding.DingReconciler.reconcile.Goals as goal
-use Rattle.reconcile.proofs.ding.DingReconciler.reconcile.Goals.{in-0, in-0-2, in-0-2·2, in-1, in-1-2, in-1-2·2}
+use Rattle.reconcile.proofs.ding.DingReconciler.reconcile.Goals.{in-0, in-0-2, in-0-2-2, in-1, in-1-2, in-1-2-2}
 
 -- what a signed form that is answered tells of the residue
 module _ (q x : ℕ) (s : ℤ) (e : Ok s ≡ signed_answer q x) where
@@ -31,26 +31,26 @@ held z = to_z w32 (of_z w32 z)
 same_signal : {a b s a' b' s' : ℤ} → a ≡ a' → b ≡ b' → s ≡ s' → region_signal a b s ≡ region_signal a' b' s'
 same_signal e f g = cc
 
-pub returns-in-err-bit : goal.returns-in-err-bit
-returns-in-err-bit c =
-    let below = answered_below _ _ _ c.in-ok-s.ensures.value in
+pub returns-in_err-bit : goal.returns-in_err-bit
+returns-in_err-bit c =
+    let below = answered_below _ _ _ c.in_ok-s.ensures.value in
     let small : c.match-coin.signal < 2 =
     elim c.match-coin.branch [
       | in-0 w ↦ omega (arith, w.signal-is)
       | in-0-2 w ↦ omega (arith, w.signal-is)
-      | in-0-2·2 w ↦ omega (arith, w.signal-is)
+      | in-0-2-2 w ↦ omega (arith, w.signal-is)
       | in-1 w ↦ omega (arith, w.signal-is)
       | in-1-2 w ↦ omega (arith, w.signal-is)
-      | in-1-2·2 w ↦ omega (arith, w.signal-is)
+      | in-1-2-2 w ↦ omega (arith, w.signal-is)
     ] in
-    absurd (never_refused _ _ _ below _ small c.in-err-bit.ensures)
+    absurd (never_refused _ _ _ below _ small c.in_err-bit.ensures)
 
 pub returns : goal.returns
 returns c =
     let q = c.args.q.q in
     let coin = c.args.coin in
-    let s = c.in-ok-s.s in
-    let told = c.in-ok-s.ensures.value in
+    let s = c.in_ok-s.s in
+    let told = c.in_ok-s.ensures.value in
     let at : ℤ = held s in
     let at-is : at ≡ s = omega (arith, ints) in
     let r : ℤ = to_z w32 (c.value.result / 4) in
@@ -65,11 +65,11 @@ returns c =
     elim c.match-coin.branch [
       | in-0 w ↦ by-0 w.in-0.is (w.signal-is ∙ sym (signal_inside low-0 r at w.if-r-s.true w.if-s-r.true))
       | in-0-2 w ↦ by-0 w.in-0.is (w.signal-is ∙ sym (signal_over low-0 r at w.if-s-r.false))
-      | in-0-2·2 w ↦ by-0 w.in-0.is (w.signal-is ∙ sym (signal_under low-0 r at w.if-r-s.false))
+      | in-0-2-2 w ↦ by-0 w.in-0.is (w.signal-is ∙ sym (signal_under low-0 r at w.if-r-s.false))
       | in-1 w ↦ by-1 w.in-1.is (w.signal-is ∙ sym (signal_inside low-1 high-1 at w.if-r-s-2.true w.if-s-r-2.true))
       | in-1-2 w ↦ by-1 w.in-1.is (w.signal-is ∙ sym (signal_over low-1 high-1 at w.if-s-r-2.false))
-      | in-1-2·2 w ↦ by-1 w.in-1.is (w.signal-is ∙ sym (signal_under low-1 high-1 at w.if-r-s-2.false))
+      | in-1-2-2 w ↦ by-1 w.in-1.is (w.signal-is ∙ sym (signal_under low-1 high-1 at w.if-r-s-2.false))
     ] in
     both_answered q c.args.x c.match-coin.signal (answered_below _ _ _ told) coin _ way.0
     (way.1 ∙ ap (signal_at q coin) (answered_signed _ _ _ told))
-    c.in-ok-bit.ensures
+    c.in_ok-bit.ensures

@@ -3,7 +3,7 @@ use Rattle.std.proofs.lemmas.Int.{ints, to_z-of_z}
 use Rattle.std.proofs.lemmas.Bool.{cond_below}
 use Rattle.ring.specs.declared.fault.Fault.TheVariants.{OutOfRange}
 use Rattle.reconcile.specs.Okcn.{okcn_read}
-use Rattle.reconcile.specs.OkcnLaws.{product_read}
+use Rattle.reconcile.specs.LawProofs.Okcn.{product_read}
 use Rattle.reconcile.proofs.okcn.OkcnReconciler.read.Goals as goal
 
 -- a number as 32 bits hold it
@@ -25,25 +25,19 @@ module _ (q y v : ℕ) (s : ℤ) (below : q < 2 ^ 23) (h : y < q) (few : v < 4) 
       let whole : held product ≡ product = to_z-of_z w32 product fits in
       cc
 
-  sum_fits : SFits w32 (held (pos 16 *ℤ to_z w32 y) +ℤ held (to_z w32 q *ℤ held (pos 3 -ℤ held (pos 2 *ℤ held s))))
-  sum_fits = omega (arith, ints, product_size, held_product)
-
   held_sum : held (held (pos 16 *ℤ to_z w32 y) +ℤ held (to_z w32 q *ℤ held (pos 3 -ℤ held (pos 2 *ℤ held s)))) ≡ pos (16 * y) +ℤ product
   held_sum = omega (arith, ints, product_size, held_product)
-
-pub overflow-add-y : goal.overflow-add-y
-overflow-add-y c = sum_fits c.value-q.result c.args.y c.args.signal c.from-signal.result (omega arith) (omega arith) (omega arith) c.from-signal.ensures
 
 pub returns : goal.returns
 returns c =
     let q : ℕ = c.value-q.result in
     let y = c.args.y in
     let signal = c.args.signal in
-    let floor = c.div-euclid-floor.result in
-    let rest = c.rem-euclid.result in
+    let floor = c.div_euclid-floor.result in
+    let rest = c.rem_euclid.result in
     let sum = held_sum q y signal c.from-signal.result (omega arith) (omega arith) (omega arith) c.from-signal.ensures in
     let divisor : held (pos 8 *ℤ to_z w32 q) ≡ pos (8 * q) = omega (arith, ints) in
     let floor-held : held floor ≡ floor = omega (arith, ints) in
     let rest-held : held rest ≡ rest = omega (arith, ints) in
-    let is : nat_abs (held rest) ≡ okcn_read q y signal = cc (c.div-euclid-floor.ensures, c.rem-euclid.ensures.value) in
+    let is : nat_abs (held rest) ≡ okcn_read q y signal = cc (c.div_euclid-floor.ensures, c.rem_euclid.ensures.value) in
     rw (← c.value-q.ensures) (ap Ok is ∙ cond_below signal 4 _ (Err (OutOfRange 0)) (omega arith) ∙ cond_below y q _ (Err (OutOfRange 0)) (omega arith))

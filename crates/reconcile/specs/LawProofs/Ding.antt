@@ -9,8 +9,8 @@ use Rattle.profile.specs.Counts.{count}
 use Rattle.profile.specs.Laws.{MultipleWithin, key_count}
 use Rattle.reconcile.specs.Reconcilers.{tolerance, Reconciles, Sound}
 use Rattle.reconcile.specs.Ding.{within, ding_signal, ding_read, ding_functions, ding_numbers}
-use Rattle.reconcile.specs.Counts.{count_parts, count_none, count_parity}
-use Rattle.reconcile.specs.Near.{Near, above, below, above_wrapped, below_wrapped, residue_near, near_itself}
+use Rattle.reconcile.specs.LawProofs.Counts.{count_parts, count_none, count_parity}
+use Rattle.reconcile.specs.LawProofs.Near.{Near, above, below, above_wrapped, below_wrapped, residue_near, near_itself}
 
 abbrev ding_count : ℕ → ℕ → ℕ → ℕ → ℕ
 ding_count q = key_count (ding_signal q) (λ x coin. ding_read q x (ding_signal q x coin)) q
