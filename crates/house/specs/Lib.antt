@@ -2,8 +2,4 @@ pub mod Rounding
 pub mod NumberSets
 pub mod House
 pub mod Bench
-pub mod Lawfulness
-pub mod Roundings
-pub mod Classes
-pub mod Floors
-pub mod AdmissibleSets
+pub mod LawProofs

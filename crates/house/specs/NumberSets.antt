@@ -21,8 +21,8 @@ pub record Admissible (s : Sizes) : Type 0 where
   pub within_eighth : 2 * s.l * (s.e + s.rounding) ≤ s.q / 8 - 1
 
 -- what a secret of these sizes is held to
-abbrev pub secret_bounds : Sizes → Bounds
-secret_bounds s = record { n = s.n; e = s.e; l = s.l }
+abbrev pub bounds_of_sizes : Sizes → Bounds
+bounds_of_sizes s = record { n = s.n; e = s.e; l = s.l }
 
 abbrev pub sizes_t : Sizes
 sizes_t = record { n = 4; q = 257; p = 63; w = 6; e = 1; l = 4; rounding = 2; byte = 1 }

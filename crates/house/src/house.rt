@@ -2,7 +2,7 @@
 ghost use Rattle.std.specs.Prelude.{◌≡◌};
 ghost use Rattle.house.specs.House.{house_numbers, house_functions};
 ghost use Rattle.reconcile.specs.Reconcilers.{tolerance};
-ghost use Rattle.house.specs.Lawfulness.{house_lawful};
+ghost use Rattle.house.specs.LawProofs.Lawfulness.{house_lawful};
 ghost use Rattle.std.proofs.Common.{rules};
 
 use crate::number_set::NumberSet;

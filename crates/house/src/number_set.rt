@@ -1,8 +1,8 @@
 // The three number sets.
 ghost use Rattle.std.specs.Prelude.{◌≡◌};
-ghost use Rattle.house.specs.NumberSets.{Admissible, secret_bounds, sizes_t, sizes_s, sizes_w};
+ghost use Rattle.house.specs.NumberSets.{Admissible, bounds_of_sizes, sizes_t, sizes_s, sizes_w};
 ghost use Rattle.house.specs.declared.sizes.Sizes.{Sizes};
-ghost use Rattle.house.specs.AdmissibleSets.{admissible_t, admissible_s, admissible_w};
+ghost use Rattle.house.specs.LawProofs.AdmissibleSets.{admissible_t, admissible_s, admissible_w};
 ghost use Rattle.std.proofs.Common.{rules};
 
 use crate::sizes::Sizes;
@@ -22,7 +22,7 @@ pub trait NumberSet {
 
     ghost admissible: { Admissible sizes };
 
-    ghost secret_bounds: { Self.Secret.SecretPlace.bounds ≡ secret_bounds sizes };
+    ghost secret_bounds: { Self.Secret.bounds ≡ bounds_of_sizes sizes };
 }
 
 // Small enough to work through by hand.

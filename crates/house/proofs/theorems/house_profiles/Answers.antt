@@ -1,7 +1,7 @@
-use Rattle.reconcile.specs.DingLaws.{ding_sound}
-use Rattle.reconcile.specs.OkcnLaws.{okcn_sound}
-use Rattle.house.specs.AdmissibleSets.{admissible_t, admissible_s, admissible_w}
-use Rattle.house.specs.Lawfulness.{house_lawful}
+use Rattle.reconcile.specs.LawProofs.Ding.{ding_sound}
+use Rattle.reconcile.specs.LawProofs.Okcn.{okcn_sound}
+use Rattle.house.specs.LawProofs.AdmissibleSets.{admissible_t, admissible_s, admissible_w}
+use Rattle.house.specs.LawProofs.Lawfulness.{house_lawful}
 use Rattle.house.proofs.theorems.house_profiles.Goals as goal
 
 pub returns : goal.returns

@@ -7,8 +7,8 @@ use Rattle.std.proofs.lemmas.Bool.{cases_lt, cases_order, cond_both}
 use Rattle.std.proofs.lemmas.Bool.Decides.{nat_tests}
 use Rattle.profile.specs.Laws.{MultipleWithin}
 use Rattle.house.specs.Rounding.{recover, candidate, round, argmin, distance, IsRecovered, IsRounded, Tied, Midway}
-use Rattle.house.specs.Classes.{by_step, next_class, next_least, lowered, lowered_class, above_class, class_apart, distance_multiple, multiple_below, place_is, place_up, place_within}
-use Rattle.house.specs.Floors.{floor_grows, floor_gap, floor_most}
+use Rattle.house.specs.LawProofs.Classes.{by_step, next_class, next_least, lowered, lowered_class, above_class, class_apart, distance_multiple, multiple_below, place_is, place_up, place_within}
+use Rattle.house.specs.LawProofs.Floors.{floor_grows, floor_gap, floor_most}
 
 -- ---- the first place of the least
 

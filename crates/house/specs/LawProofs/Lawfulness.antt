@@ -3,7 +3,7 @@ use Rattle.std.proofs.Common.{⊎_elim, sym, ap, ◌∙◌, mul-add, mul_left_co
 use Rattle.std.specs.Prelude.{◌≡◌, ℕ, ◌+◌, ◌-◌, ◌*◌, ◌/◌, ◌%◌, ◌^◌, ◌<◌, ◌≤◌}
 use Rattle.std.proofs.lemmas.Nat.{pow_pos}
 use Rattle.profile.specs.Laws.{InRange, Lawful}
-use Rattle.house.specs.Roundings.{recover_range, round_is, round_near}
+use Rattle.house.specs.LawProofs.Roundings.{recover_range, round_is, round_near}
 use Rattle.house.specs.House.{house_numbers, house_functions}
 use Rattle.house.specs.NumberSets.{Admissible}
 use Rattle.reconcile.specs.Reconcilers.{Reconciliation, Sound, Reconciles, tolerance}
@@ -50,7 +50,7 @@ module _ (s : Sizes) (k : ReconcilerNumbers) (f : Reconciliation) (admits : Admi
 
   pub house_lawful : Lawful (house_numbers s k) (house_functions s k f)
   house_lawful = record {
-    in-range = house_in_range;
+    in_range = house_in_range;
     recover_range = recover_range s.q s.p k.step p_positive admits.p_below sound.small.step_is;
     signal_range = reconciles.signal_range;
     bit_range = reconciles.bit_range;
