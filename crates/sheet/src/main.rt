@@ -11,7 +11,7 @@ use std::io;
 use survey::{count_keys, last_coin, last_signal, survey_rounding};
 
 // Why a sheet was not printed.
-#[derive(Drop)]
+#[derive(Debug, Drop)]
 enum Failure {
     Output(io::Error),
     Survey(Fault),
@@ -29,11 +29,11 @@ impl From<Fault> for Failure {
     }
 }
 
-fn print_row(rt: &HostRuntime, label: &str, value: impl Display + Drop) -> io::Result<()> {
+fn print_row(rt: &impl Print, label: &str, value: impl Display + Drop) -> io::Result<()> {
     println!(rt; "  {label:<20}{value}")
 }
 
-fn print_numbers(rt: &HostRuntime, k: &Numbers) -> io::Result<()> {
+fn print_numbers(rt: &impl Print, k: &Numbers) -> io::Result<()> {
     print_row(rt, "numbers byte", k.numbers_byte)?;
     print_row(rt, "reconciler byte", k.reconciler_byte)?;
     print_row(rt, "n", k.n)?;
@@ -49,14 +49,14 @@ fn print_numbers(rt: &HostRuntime, k: &Numbers) -> io::Result<()> {
     print_row(rt, "signal bits", k.signal_width)
 }
 
-fn print_lengths<P: Profile>(rt: &HostRuntime) -> io::Result<()> {
+fn print_lengths<P: Profile>(rt: &impl Print) -> io::Result<()> {
     print_row(rt, "offer bytes", offer_length::<P>())?;
     print_row(rt, "answer bytes", answer_length::<P>())?;
     print_row(rt, "confirmation bytes", confirmation_length())?;
     print_row(rt, "key bytes", key_length::<P>())
 }
 
-fn print_keys<P: Profile>(rt: &HostRuntime, coin: u8, signal: u8) -> Result<(), Failure> {
+fn print_keys<P: Profile>(rt: &impl Print, coin: u8, signal: u8) -> Result<(), Failure> {
     let keys = count_keys::<P>(coin, signal)?;
     println!(rt;
         "  coin {coin} signal {signal}     key 0: {}, key 1: {}",
@@ -65,7 +65,7 @@ fn print_keys<P: Profile>(rt: &HostRuntime, coin: u8, signal: u8) -> Result<(), 
     Ok(())
 }
 
-fn print_survey<P: Profile>(rt: &HostRuntime) -> Result<(), Failure> {
+fn print_survey<P: Profile>(rt: &impl Print) -> Result<(), Failure> {
     let rounding = survey_rounding::<P>()?;
     print_row(rt, "least distance", rounding.least)?;
     print_row(rt, "largest distance", rounding.largest)?;
@@ -78,7 +78,7 @@ fn print_survey<P: Profile>(rt: &HostRuntime) -> Result<(), Failure> {
     Ok(())
 }
 
-fn print_profile<P: Profile>(rt: &HostRuntime, name: &str) -> Result<(), Failure> {
+fn print_profile<P: Profile>(rt: &impl Print, name: &str) -> Result<(), Failure> {
     println!(rt; "{name}")?;
     print_numbers(rt, &P::stated())?;
     print_lengths::<P>(rt)?;

@@ -35,7 +35,7 @@ pub recovered_below : (k : Numbers) (f : Functions) → Lawful k f → (y t : �
 recovered_below k f lawful y t e =
     ⊎_elim
     (λ over. absurd (let refused = lt-leb y k.p over in let z : ◌≡◌ {A = ℕ} 0 1 = cc in omega arith))
-    (λ within. omega (arith, recovered k f y t e, lawful.recover_range y within, lawful.in-range.q_below))
+    (λ within. omega (arith, recovered k f y t e, lawful.recover_range y within, lawful.in_range.q_below))
     (cases_lt k.p y)
 
 pub count_more : (passes : ℕ → Bool) (n : ℕ) → count passes (n + 1) ≡ count passes n + cond (passes n) 1 0

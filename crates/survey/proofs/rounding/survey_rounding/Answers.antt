@@ -11,7 +11,7 @@ pub widen-survey-requires : goal.widen-survey-requires
 widen-survey-requires g c =
     let q = ap (λ (s : Numbers). s.q) c.stated-x-end.ensures in
     let within = count_within (tie g.P.Profile.numbers g.P.Profile.functions) c.loop-x.x in
-    omega (arith, c.loop-x.invariant.ties, c.loop-x-test.true, g.met.P.Profile.lawful.in-range.q_below)
+    omega (arith, c.loop-x.invariant.ties, c.loop-x-test.true, g.met.P.Profile.lawful.in_range.q_below)
 
 -- one and this are what the same call returned
 widened_by : (s next : RoundingSurvey) (r : Result Rounded Fault) (one this : Rounded) → r ≡ Ok one → r ≡ Ok this → next ≡ widened s one.distance one.tie → widened s this.distance this.tie ≡ next
@@ -24,12 +24,6 @@ loop-x-preserved g c =
     let x = c.loop-x.x in
     let s = c.loop-x.survey in
     subst (Surveyed k f (x + 1))
-    (widened_by s c.widen-survey.result c.round-one-in-loop-x.result c.in-ok-round-one.field-0 (record { distance = distance f x; tie = tie k f x })
-    c.in-ok-round-one.was c.round-one-in-loop-x.ensures c.widen-survey.ensures)
+    (widened_by s c.widen-survey.result c.round_one-in-loop-x.result c.in_ok-round_one.field-0 (record { distance = distance f x; tie = tie k f x })
+    c.in_ok-round_one.was c.round_one-in-loop-x.ensures c.widen-survey.ensures)
     (surveyed_more k f x s c.loop-x.invariant)
-
-pub returns : goal.returns
-returns g c =
-    let q : c.loop-x.x ≡ g.P.Profile.numbers.q =
-    omega (arith, ap (λ (s : Numbers). s.q) c.stated-x-end.ensures, c.loop-x-test.false, c.loop-x.auto.x-end, g.met.P.Profile.lawful.in-range.q_odd) in
-    subst (λ (n : ℕ). Surveyed g.P.Profile.numbers g.P.Profile.functions n c.loop-x.survey) q c.loop-x.invariant
