@@ -6,7 +6,7 @@ use Rattle.std.proofs.lemmas.List.FromFn.{length-map-range_with_len, get_or-map-
 use Rattle.ring.specs.Residues.{residue}
 use Rattle.element.specs.Products.{at, shifted, coefficient, integer_product, product}
 use Rattle.element.specs.ProductLaws.{added, scaled, residues}
-use Rattle.element.proofs.Congruences.{Congruent, congruent_same, congruent_add, congruent_residue, congruent_coefficient, residue_same}
+use Rattle.element.proofs.Congruences.{Congruent, congruent_same, congruent_residue, congruent_coefficient, residue_same}
 use Rattle.element.proofs.Products.{shifted_low, shifted_high, coefficient_same, coefficient_monomial, coefficient_add_left, coefficient_times_left, coefficient_comm, coefficient_exchange}
 use Rattle.element.proofs.Shapes.{at_integer_product, length_integer_product, product_is_residues}
 
@@ -20,17 +20,9 @@ pub at_added : (n : ℕ) (u v : List ℤ) (i : ℕ) → i < n → at (added n u 
 unfolding added
 at_added n u v i h = get_or-map-range_with_len (λ j. at u j +ℤ at v j) 0 n i i (pos 0) h (omega arith)
 
-pub length_added : (n : ℕ) (u v : List ℤ) → length (added n u v) ≡ n
-unfolding added
-length_added n u v = length-map-range_with_len (λ j. at u j +ℤ at v j) 0 n
-
 pub at_scaled : (n : ℕ) (c : ℤ) (u : List ℤ) (i : ℕ) → i < n → at (scaled n c u) i ≡ c *ℤ at u i
 unfolding scaled
 at_scaled n c u i h = get_or-map-range_with_len (λ j. c *ℤ at u j) 0 n i i (pos 0) h (omega arith)
-
-pub length_scaled : (n : ℕ) (c : ℤ) (u : List ℤ) → length (scaled n c u) ≡ n
-unfolding scaled
-length_scaled n c u = length-map-range_with_len (λ j. c *ℤ at u j) 0 n
 
 -- ---- integer lists
 
@@ -123,9 +115,9 @@ at_residues q (x ∷ u) (suc i) some = at_residues q u i some
 
 -- lists of n congruent integers have the same residues
 pub residues_same : (n q : ℕ) (u v : List ℤ) → 0 < q → length u ≡ n → length v ≡ n → ((k : ℕ) → k < n → Congruent q (at u k) (at v k)) → residues q u ≡ residues q v
-residues_same n q u v some u-size v-size each =
+residues_same n q u v some u_size v_size each =
     same_lists (residues q u) (residues q v)
-    (length-map u (residue q) ∙ u-size ∙ sym (length-map v (residue q) ∙ v-size))
+    (length-map u (residue q) ∙ u_size ∙ sym (length-map v (residue q) ∙ v_size))
     (λ k d h.
     let inside : k < length u = subst (λ l. k < l) (length-map u (residue q)) h in
     get_or-map (residue q) u k (pos 0) d inside ∙ residue_same q (at u k) (at v k) some (each k (omega arith))
@@ -139,16 +131,6 @@ product_same n q u w v x some left right =
     subst₂ (Congruent q) (sym (at_integer_product n u v k h)) (sym (at_integer_product n w x k h))
     (congruent_coefficient q n (at u) (at w) (at v) (at x) k h left right))
 
--- the sum of residues has the residues of the sum
-pub residues_added : (n q : ℕ) (u v : List ℤ) → 0 < q → residues q (added n (map pos (residues q u)) (map pos (residues q v))) ≡ residues q (added n u v)
-residues_added n q u v some =
-    let a = map pos (residues q u) in
-    let b = map pos (residues q v) in
-    residues_same n q (added n a b) (added n u v) some (length_added n a b) (length_added n u v)
-    (λ k h.
-    subst₂ (Congruent q) (sym (at_added n a b k h)) (sym (at_added n u v k h))
-    (congruent_add q (at a k) (at u k) (at b k) (at v k) (at_residues q u k some) (at_residues q v k some)))
-
 pub product_comm : (n q : ℕ) (a b : List ℕ) → product n q a b ≡ product n q b a
 unfolding product
 product_comm n q a b = ap (residues q) (integer_product_comm n (map pos a) (map pos b))
@@ -159,10 +141,6 @@ unfolding product
 product_residues_left n q u b some =
     product_same n q (map pos (residues q u)) u (map pos b) (map pos b) some (λ i h. at_residues q u i some)
     (λ i h. congruent_same q (at (map pos b) i) (at (map pos b) i) refl)
-
-pub product_residues_right : (n q : ℕ) (a : List ℕ) (v : List ℤ) → 0 < q → product n q a (residues q v) ≡ residues q (integer_product n (map pos a) v)
-product_residues_right n q a v some =
-    product_comm n q a (residues q v) ∙ product_residues_left n q v a some ∙ ap (residues q) (integer_product_comm n v (map pos a))
 
 pub product_residues : (n q : ℕ) (u v : List ℤ) → 0 < q → product n q (residues q u) (residues q v) ≡ residues q (integer_product n u v)
 unfolding product

@@ -1,5 +1,5 @@
 -- Finite sums of integers: f 0 + .. + f (m - 1).
-use Rattle.std.proofs.Common.{◌≡◌, ℕ, zero, suc, ◌+◌, ◌-◌, ◌<◌, ℤ, pos, ◌+ℤ◌, ◌*ℤ◌, neg_ℤ, sym, refl, ap, ◌∙◌, ⊎_elim, add-zero, add-suc, add-one, arith}
+use Rattle.std.proofs.Common.{◌≡◌, ℕ, zero, suc, ◌+◌, ◌-◌, ◌<◌, ℤ, pos, ◌+ℤ◌, ◌*ℤ◌, neg_ℤ, sym, refl, ap, ◌∙◌, ⊎_elim, add-zero, add-suc, arith}
 use lib.IntN.{+ℤ_idl, +ℤ_idr, +ℤ_comm, +ℤ_assoc, neg_ℤ-+ℤ, *ℤ-zero}
 use Rattle.std.proofs.lemmas.Int.{ints}
 use Rattle.std.proofs.lemmas.Bool.{cases_eq}
@@ -13,9 +13,6 @@ sum_to_none f = refl
 pub sum_to_suc : (m : ℕ) (f : ℕ → ℤ) → sum_to (suc m) f ≡ sum_to m f +ℤ f m
 unfolding sum_to
 sum_to_suc m f = refl
-
-pub sum_to_more : (m : ℕ) (f : ℕ → ℤ) → sum_to (m + 1) f ≡ sum_to m f +ℤ f m
-sum_to_more m f = ap (λ n. sum_to n f) (add-one m) ∙ sum_to_suc m f
 
 -- equal summands give equal sums
 pub sum_to_same : (m : ℕ) (f g : ℕ → ℤ) → ((i : ℕ) → i < m → f i ≡ g i) → sum_to m f ≡ sum_to m g

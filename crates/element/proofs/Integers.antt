@@ -62,19 +62,19 @@ one_times (negsuc a) = omega (arith, ints)
 pub times_exchange : (a b c : ℤ) → a *ℤ (b *ℤ c) ≡ b *ℤ (a *ℤ c)
 times_exchange a b c = sym (times_assoc a b c) ∙ ap (λ x. x *ℤ c) (*ℤ_comm a b) ∙ times_assoc b a c
 
-pub natAbs_times : (a b : ℤ) → nat_abs (a *ℤ b) ≡ nat_abs a * nat_abs b
-natAbs_times (pos a) (pos b) = refl
-natAbs_times (pos a) (negsuc b) = omega (arith, ints)
-natAbs_times (negsuc a) (pos b) = omega (arith, ints)
-natAbs_times (negsuc a) (negsuc b) = refl
+pub nat_abs_times : (a b : ℤ) → nat_abs (a *ℤ b) ≡ nat_abs a * nat_abs b
+nat_abs_times (pos a) (pos b) = refl
+nat_abs_times (pos a) (negsuc b) = omega (arith, ints)
+nat_abs_times (negsuc a) (pos b) = omega (arith, ints)
+nat_abs_times (negsuc a) (negsuc b) = refl
 
-pub natAbs_add : (a b : ℤ) → nat_abs (a +ℤ b) ≤ nat_abs a + nat_abs b
-natAbs_add (pos a) (pos b) = omega (arith, ints)
-natAbs_add (pos a) (negsuc b) = omega (arith, ints)
-natAbs_add (negsuc a) (pos b) = omega (arith, ints)
-natAbs_add (negsuc a) (negsuc b) = omega (arith, ints)
+pub nat_abs_add : (a b : ℤ) → nat_abs (a +ℤ b) ≤ nat_abs a + nat_abs b
+nat_abs_add (pos a) (pos b) = omega (arith, ints)
+nat_abs_add (pos a) (negsuc b) = omega (arith, ints)
+nat_abs_add (negsuc a) (pos b) = omega (arith, ints)
+nat_abs_add (negsuc a) (negsuc b) = omega (arith, ints)
 
-pub natAbs_neg : (a : ℤ) → nat_abs (neg_ℤ a) ≡ nat_abs a
-natAbs_neg (pos zero) = refl
-natAbs_neg (pos (suc a)) = refl
-natAbs_neg (negsuc a) = refl
+pub nat_abs_neg : (a : ℤ) → nat_abs (neg_ℤ a) ≡ nat_abs a
+nat_abs_neg (pos zero) = refl
+nat_abs_neg (pos (suc a)) = refl
+nat_abs_neg (negsuc a) = refl

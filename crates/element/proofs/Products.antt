@@ -1,10 +1,10 @@
 -- The product of integer polynomials modulo x^n + 1, as functions from the index to the coefficient.
 use Rattle.std.proofs.Common.{◌≡◌, ℕ, suc, ◌+◌, ◌-◌, ◌<◌, ◌≤◌, Bool, true, false, cond, leb, ℤ, pos, ◌+ℤ◌, ◌*ℤ◌, neg_ℤ, sym, refl, ap, ◌∙◌, subst₂, ⊎_elim, add_comm, arith}
-use lib.IntN.{*ℤ_comm, neg_ℤ-+ℤ, neg_ℤ-neg_ℤ, zero-*ℤ}
+use lib.IntN.{*ℤ_comm, neg_ℤ-neg_ℤ, zero-*ℤ}
 use Rattle.std.proofs.lemmas.Bool.{cond-true, cond-false, le-leb, lt-leb, cases_lt}
 use Rattle.element.specs.Products.{sum_to, shifted, coefficient}
 use Rattle.element.proofs.FiniteSums.{sum_to_same, sum_to_add, sum_to_times, sum_to_neg, sum_to_exchange, sum_to_split, sum_to_reversed, sum_to_alone}
-use Rattle.element.proofs.Integers.{one_times, times_add_left, times_add_right, times_neg_right, times_assoc, times_exchange}
+use Rattle.element.proofs.Integers.{one_times, times_add_left, times_neg_right, times_assoc, times_exchange}
 use Rattle.element.proofs.Shapes.{coefficient_is}
 
 pub shifted_low : (n : ℕ) (v : ℕ → ℤ) (k i : ℕ) → i ≤ k → shifted n v k i ≡ v (k - i)
@@ -25,13 +25,6 @@ shifted_related R n v w k i negated k< i< related =
 
 pub shifted_same : (n : ℕ) (v w : ℕ → ℤ) (k i : ℕ) → k < n → i < n → ((m : ℕ) → m < n → v m ≡ w m) → shifted n v k i ≡ shifted n w k i
 shifted_same n v w k i k< i< same = shifted_related (λ x y. x ≡ y) n v w k i (λ x y e. ap neg_ℤ e) k< i< same
-
-pub shifted_add : (n : ℕ) (v w : ℕ → ℤ) (k i : ℕ) → shifted n (λ m. v m +ℤ w m) k i ≡ shifted n v k i +ℤ shifted n w k i
-shifted_add n v w k i = either (leb i k) (v (k - i)) (w (k - i)) (v (k + n - i)) (w (k + n - i))
-  where
-    either : (t : Bool) (a b c d : ℤ) → cond t (a +ℤ b) (neg_ℤ (c +ℤ d)) ≡ cond t a (neg_ℤ c) +ℤ cond t b (neg_ℤ d)
-    either true a b c d = refl
-    either false a b c d = neg_ℤ-+ℤ c d
 
 pub shifted_times : (n : ℕ) (c : ℤ) (v : ℕ → ℤ) (k i : ℕ) → shifted n (λ m. c *ℤ v m) k i ≡ c *ℤ shifted n v k i
 shifted_times n c v k i = either (leb i k) (v (k - i)) (v (k + n - i))
@@ -59,25 +52,25 @@ shifted_twice n v k i j k< i< j< =
     let s = i + j in
     let second = cond (leb s (k + n)) (neg_ℤ (v (k + n - s))) (v (k + n + n - s)) in
     ⊎_elim
-    (λ j-high.
+    (λ j_high.
     let beyond : turned n v k s ≡ second = cond-false (leb s k) (v (k - s)) second (lt-leb s k (omega arith)) in
     ⊎_elim
-    (λ i-high.
-    shifted_high n after k j j-high ∙ ap neg_ℤ (shifted_high n v (k + n - j) i i-high)
+    (λ i_high.
+    shifted_high n after k j j_high ∙ ap neg_ℤ (shifted_high n v (k + n - j) i i_high)
     ∙ neg_ℤ-neg_ℤ (v (k + n - j + n - i)) ∙ ap v (omega arith)
     ∙ sym (beyond ∙ cond-false (leb s (k + n)) (neg_ℤ (v (k + n - s))) (v (k + n + n - s)) (lt-leb s (k + n) (omega arith))))
-    (λ i-low.
-    shifted_high n after k j j-high ∙ ap neg_ℤ (shifted_low n v (k + n - j) i i-low) ∙ ap (λ m. neg_ℤ (v m)) (omega arith)
+    (λ i_low.
+    shifted_high n after k j j_high ∙ ap neg_ℤ (shifted_low n v (k + n - j) i i_low) ∙ ap (λ m. neg_ℤ (v m)) (omega arith)
     ∙ sym (beyond ∙ cond-true (leb s (k + n)) (neg_ℤ (v (k + n - s))) (v (k + n + n - s)) (le-leb s (k + n) (omega arith))))
     (cases_lt (k + n - j) i))
-    (λ j-low.
+    (λ j_low.
     ⊎_elim
-    (λ i-high.
+    (λ i_high.
     let beyond : turned n v k s ≡ second = cond-false (leb s k) (v (k - s)) second (lt-leb s k (omega arith)) in
-    shifted_low n after k j j-low ∙ shifted_high n v (k - j) i i-high ∙ ap (λ m. neg_ℤ (v m)) (omega arith)
+    shifted_low n after k j j_low ∙ shifted_high n v (k - j) i i_high ∙ ap (λ m. neg_ℤ (v m)) (omega arith)
     ∙ sym (beyond ∙ cond-true (leb s (k + n)) (neg_ℤ (v (k + n - s))) (v (k + n + n - s)) (le-leb s (k + n) (omega arith))))
-    (λ i-low.
-    shifted_low n after k j j-low ∙ shifted_low n v (k - j) i i-low ∙ ap v (omega arith)
+    (λ i_low.
+    shifted_low n after k j j_low ∙ shifted_low n v (k - j) i i_low ∙ ap v (omega arith)
     ∙ sym (cond-true (leb s k) (v (k - s)) second (le-leb s k (omega arith))))
     (cases_lt (k - j) i))
     (cases_lt k j)
@@ -99,25 +92,11 @@ coefficient_add_left n u w v k =
     (λ i h. times_add_left (u i) (w i) (shifted n v k i))
     ∙ sum_to_add n (λ i. u i *ℤ shifted n v k i) (λ i. w i *ℤ shifted n v k i)
 
-pub coefficient_add_right : (n : ℕ) (u v w : ℕ → ℤ) (k : ℕ) → coefficient n u (λ i. v i +ℤ w i) k ≡ coefficient n u v k +ℤ coefficient n u w k
-unfolding coefficient
-coefficient_add_right n u v w k =
-    sum_to_same n (λ i. u i *ℤ shifted n (λ m. v m +ℤ w m) k i) (λ i. u i *ℤ shifted n v k i +ℤ u i *ℤ shifted n w k i)
-    (λ i h. ap (λ x. u i *ℤ x) (shifted_add n v w k i) ∙ times_add_right (u i) (shifted n v k i) (shifted n w k i))
-    ∙ sum_to_add n (λ i. u i *ℤ shifted n v k i) (λ i. u i *ℤ shifted n w k i)
-
 pub coefficient_times_left : (n : ℕ) (c : ℤ) (u v : ℕ → ℤ) (k : ℕ) → coefficient n (λ i. c *ℤ u i) v k ≡ c *ℤ coefficient n u v k
 unfolding coefficient
 coefficient_times_left n c u v k =
     sum_to_same n (λ i. c *ℤ u i *ℤ shifted n v k i) (λ i. c *ℤ (u i *ℤ shifted n v k i))
     (λ i h. times_assoc c (u i) (shifted n v k i))
-    ∙ sum_to_times n c (λ i. u i *ℤ shifted n v k i)
-
-pub coefficient_times_right : (n : ℕ) (c : ℤ) (u v : ℕ → ℤ) (k : ℕ) → coefficient n u (λ i. c *ℤ v i) k ≡ c *ℤ coefficient n u v k
-unfolding coefficient
-coefficient_times_right n c u v k =
-    sum_to_same n (λ i. u i *ℤ shifted n (λ m. c *ℤ v m) k i) (λ i. c *ℤ (u i *ℤ shifted n v k i))
-    (λ i h. ap (λ x. u i *ℤ x) (shifted_times n c v k i) ∙ times_exchange (u i) c (shifted n v k i))
     ∙ sum_to_times n c (λ i. u i *ℤ shifted n v k i)
 
 -- to multiply by x^j is to shift by j

@@ -28,9 +28,9 @@ pub length_product : (n q : ℕ) (a b : List ℕ) → length (product n q a b) �
 unfolding product
 length_product n q a b = length-map (integer_product n (map pos a) (map pos b)) (residue q) ∙ length_integer_product n (map pos a) (map pos b)
 
-pub getD_product : (n q : ℕ) (a b : List ℕ) (k d : ℕ) → k < n → get_or (product n q a b) k d ≡ residue q (coefficient n (at (map pos a)) (at (map pos b)) k)
+pub get_or_product : (n q : ℕ) (a b : List ℕ) (k d : ℕ) → k < n → get_or (product n q a b) k d ≡ residue q (coefficient n (at (map pos a)) (at (map pos b)) k)
 unfolding product
-getD_product n q a b k d h =
+get_or_product n q a b k d h =
     let u = map pos a in
     let v = map pos b in
     get_or-map (residue q) (integer_product n u v) k (pos 0) d (subst (λ l. k < l) (sym (length_integer_product n u v)) h)
@@ -41,5 +41,5 @@ pub product_below : (n q : ℕ) (a b : List ℕ) → 0 < q → All (λ x. x < q)
 product_below n q a b some =
     All-from_get_or (λ x. x < q) (product n q a b) 0
     (λ k h.
-    subst (λ x. x < q) (sym (getD_product n q a b k 0 (subst (λ l. k < l) (length_product n q a b) h)))
+    subst (λ x. x < q) (sym (get_or_product n q a b k 0 (subst (λ l. k < l) (length_product n q a b) h)))
     (residue_below q (coefficient n (at (map pos a)) (at (map pos b)) k) some))

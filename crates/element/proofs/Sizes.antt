@@ -5,7 +5,7 @@ use Rattle.std.proofs.lemmas.List.Sums.{sum_by_more, sum_by-take-le}
 use Rattle.std.proofs.lemmas.Bool.{cases_lt}
 use Rattle.element.specs.Products.{sum_to, at, shifted, coefficient}
 use Rattle.element.proofs.FiniteSums.{sum_to_none, sum_to_suc}
-use Rattle.element.proofs.Integers.{natAbs_times, natAbs_add, natAbs_neg}
+use Rattle.element.proofs.Integers.{nat_abs_times, nat_abs_add, nat_abs_neg}
 use Rattle.element.proofs.Products.{shifted_related, coefficient_comm}
 use Rattle.element.proofs.Shapes.{coefficient_is}
 
@@ -26,9 +26,9 @@ size_of_sum m v w zero small = subst (λ x. nat_abs x ≤ m * 0) (sym (sum_to_no
 size_of_sum m v w (suc i) small =
     let f = λ (j : ℕ). at v j *ℤ w j in
     let before = size_of_sum m v w i (λ j h. small j (omega arith)) in
-    let last = natAbs_times (at v i) (w i) in
-    let last-small = mul-le-mul_left (nat_abs (at v i)) (small i (omega arith)) in
-    let both = natAbs_add (sum_to i f) (f i) in
+    let last = nat_abs_times (at v i) (w i) in
+    let last_small = mul-le-mul_left (nat_abs (at v i)) (small i (omega arith)) in
+    let both = nat_abs_add (sum_to i f) (f i) in
     let bound : nat_abs (sum_to i f +ℤ f i) ≤ m * (sum_by nat_abs (take i v) + nat_abs (at v i)) = omega arith in
     subst (λ x. nat_abs x ≤ m * sum_by nat_abs (take (suc i) v)) (sym (sum_to_suc i f))
     (subst (λ x. nat_abs (sum_to i f +ℤ f i) ≤ m * x) (sym (sizes_suc v i)) bound)
@@ -37,6 +37,6 @@ pub size_of_coefficient : (n m : ℕ) (u v : List ℤ) (k : ℕ) → k < n → (
 size_of_coefficient n m u v k k< small =
     let w = shifted n (at u) k in
     let is = coefficient_comm n (at u) (at v) k k< ∙ coefficient_is n (at v) (at u) k in
-    let each = λ (j : ℕ) (h : j < n). shifted_related (λ x y. nat_abs x ≤ m) n (at u) (at u) k j (λ x y l. subst (λ z. z ≤ m) (sym (natAbs_neg x)) l) k< h small in
+    let each = λ (j : ℕ) (h : j < n). shifted_related (λ x y. nat_abs x ≤ m) n (at u) (at u) k j (λ x y l. subst (λ z. z ≤ m) (sym (nat_abs_neg x)) l) k< h small in
     let whole = mul-le-mul_left m (sum_by-take-le nat_abs v n) in
     subst (λ x. nat_abs x ≤ m * sum_by nat_abs v) (sym is) (le_trans (size_of_sum m v w n each) whole)

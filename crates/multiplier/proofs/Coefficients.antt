@@ -1,17 +1,16 @@
 -- The sums of natural numbers that the multipliers reduce have the residue of the product's coefficient.
-use Rattle.std.proofs.Common.{◌≡◌, ℕ, suc, ◌+◌, ◌-◌, ◌*◌, ◌%◌, ◌<◌, ◌≤◌, List, ◌++◌, map, length, get_or, ℤ, pos, ◌+ℤ◌, ◌*ℤ◌, neg_ℤ, sym, refl, ap, ◌∙◌, subst, ap₂, ⊎_elim, arith}
+use Rattle.std.proofs.Common.{◌≡◌, ℕ, ◌+◌, ◌-◌, ◌*◌, ◌%◌, ◌<◌, ◌≤◌, List, ◌++◌, map, length, get_or, ℤ, pos, ◌+ℤ◌, ◌*ℤ◌, neg_ℤ, sym, ap, ◌∙◌, subst, ap₂, ⊎_elim, arith}
 use Rattle.std.proofs.lemmas.List.{get_or-map, get_or_past, get_or_append_left, get_or-append_right, length-map}
 use Rattle.std.proofs.lemmas.Int.{ints}
 use Rattle.std.proofs.lemmas.Bool.{cases_lt}
-use Rattle.ring.specs.Residues.{residue}
 use Rattle.element.specs.Products.{at, shifted, sum_to, coefficient}
-use Rattle.element.proofs.Congruences.{Congruent, congruent_same, congruent_sym, congruent_trans, congruent_times, congruent_sum, congruent_residue, residue_same}
+use Rattle.element.proofs.Congruences.{Congruent, congruent_same, congruent_trans, congruent_times, congruent_sum, congruent_residue, residue_same}
 use Rattle.element.proofs.FiniteSums.{sum_to_same, sum_to_split, sum_to_neg}
 use Rattle.element.proofs.Integers.{times_neg_right}
 use Rattle.element.proofs.Products.{shifted_low, shifted_high}
 use Rattle.element.proofs.Shapes.{coefficient_is}
 use Rattle.multiplier.specs.Multipliers.{AllBelow}
-use Rattle.multiplier.specs.Sums.{nat_sum, negated, coefficient_mod, row_sum}
+use Rattle.multiplier.specs.Sums.{nat_sum, negated, coefficient_mod, sum_of_rows}
 use Rattle.multiplier.proofs.NaturalSums.{pos_nat_sum}
 
 pub at_pos : (xs : List ℕ) (i : ℕ) → at (map pos xs) i ≡ pos (get_or xs i 0)
@@ -53,7 +52,7 @@ module _ (q : ℕ) (left right : List ℕ) (k : ℕ) (some : 0 < q) (long : leng
       congruent_same q _ _ (ap pos word ∙ sym other))
       (cases_lt k i)
 
-  pub row_sum_is_coefficient : AllBelow q right → row_sum left (map (negated q) right ++ right) (length left) k % q ≡ coefficient_mod (length left) q left right k
+  pub row_sum_is_coefficient : AllBelow q right → sum_of_rows left (map (negated q) right ++ right) (length left) k % q ≡ coefficient_mod (length left) q left right k
   row_sum_is_coefficient below =
       let u = at (map pos left) in
       let v = at (map pos right) in
@@ -92,9 +91,9 @@ module _ (q : ℕ) (left right : List ℕ) (k : ℕ) (some : 0 < q) (long : leng
 
   -- the difference is taken from a multiple of q
   pub difference_is_coefficient : (plus minus times : ℕ) → plus ≡ nat_sum (k + 1) (λ t. get_or left t 0 * get_or right (k - t) 0) → minus ≡ nat_sum (length left - (k + 1)) (λ t. get_or left (k + 1 + t) 0 * get_or right (length left - 1 - t) 0) → minus ≤ plus + times * q → (plus + times * q - minus) % q ≡ coefficient_mod (length left) q left right k
-  difference_is_coefficient plus minus times plus-is minus_is enough =
+  difference_is_coefficient plus minus times plus_is minus_is enough =
       let exact : coefficient (length left) (at (map pos left)) (at (map pos right)) k ≡ pos plus +ℤ neg_ℤ (pos minus) =
-      difference ∙ ap₂ (λ (a b : ℕ). pos a +ℤ neg_ℤ (pos b)) (sym plus-is) (sym minus_is) in
+      difference ∙ ap₂ (λ (a b : ℕ). pos a +ℤ neg_ℤ (pos b)) (sym plus_is) (sym minus_is) in
       residue_same q (pos (plus + times * q - minus)) (coefficient (length left) (at (map pos left)) (at (map pos right)) k) some
       (subst (λ (z : ℤ). Congruent q (pos (plus + times * q - minus)) z) (sym exact)
       (record { multiple = pos times; apart = omega (arith, ints) }))

@@ -1,5 +1,5 @@
 -- Sums of natural numbers: one more term, equal terms, a bound.
-use Rattle.std.proofs.Common.{◌≡◌, ℕ, zero, suc, ◌+◌, ◌*◌, ◌^◌, ◌<◌, ◌≤◌, ℤ, pos, ◌+ℤ◌, sym, refl, ap, ◌∙◌, ap₂, suc-mul, add-one, arith}
+use Rattle.std.proofs.Common.{◌≡◌, ℕ, zero, suc, ◌+◌, ◌*◌, ◌^◌, ◌<◌, ◌≤◌, ℤ, pos, ◌+ℤ◌, refl, ap, ap₂, suc-mul, add-one, arith}
 use Rattle.std.proofs.lemmas.Nat.{mul-le}
 use Rattle.element.specs.Products.{sum_to}
 use Rattle.multiplier.specs.Sums.{nat_sum}
@@ -35,3 +35,5 @@ pub pos_nat_sum : (g : ℕ → ℕ) (m : ℕ) → pos (nat_sum m g) ≡ sum_to m
 unfolding nat_sum sum_to
 pos_nat_sum g zero = refl
 pos_nat_sum g (suc m) = ap (λ (z : ℤ). z +ℤ pos (g m)) (pos_nat_sum g m)
+
+pub ruleset sum_steps = (nat_sum_none, nat_sum_more)

@@ -1,14 +1,13 @@
 -- What each answer of a multiplication says of the lists and buffers.
-use Rattle.std.proofs.Common.{◌≡◌, ℕ, ◌+◌, ◌<◌, ◌≤◌, true, false, eqb, ltb, List, length, get_or, Ok, sym, refl, subst, inl, inr, arith}
-use Rattle.std.proofs.lemmas.List.Sums.{prefix_len-le-length}
+use Rattle.std.proofs.Common.{◌≡◌, ℕ, ◌<◌, ◌≤◌, eqb, ltb, List, length, Ok, sym, refl, subst, inl, inr, arith}
 use Rattle.std.proofs.lemmas.Bool.{cond_both, eqb-true, eqb-false, ltb-true, ltb-false}
 use Rattle.ring.proofs.Fronts.{front_passes, front_ends}
-use Rattle.multiplier.specs.Multipliers.{AllBelow, Fitting, FirstNotBelow, MultiplyMeans, front_below, multiply_answer}
+use Rattle.multiplier.specs.Multipliers.{AllBelow, Fitting, FirstNotBelow, MultiplyMeans, prefix_below, multiply_answer}
 
-all_below : (q : ℕ) (xs : List ℕ) → length xs ≤ front_below q xs → AllBelow q xs
+all_below : (q : ℕ) (xs : List ℕ) → length xs ≤ prefix_below q xs → AllBelow q xs
 all_below q xs far k h = ltb-true _ _ (front_passes (λ x. ltb x q) 0 xs k (omega arith))
 
-first_not_below : (q : ℕ) (xs : List ℕ) → front_below q xs < length xs → FirstNotBelow q xs (front_below q xs)
+first_not_below : (q : ℕ) (xs : List ℕ) → prefix_below q xs < length xs → FirstNotBelow q xs (prefix_below q xs)
 first_not_below q xs h = record {
   inside = h;
   before = λ k lt. ltb-true _ _ (front_passes (λ x. ltb x q) 0 xs k lt);
@@ -29,18 +28,18 @@ multiply_means n q need left right scratch output =
     (λ enough.
     let scratch_long : need ≤ scratch = ltb-false _ _ enough in
     cond_both (eqb output n) _ _ Means
-    (λ output-is.
-    cond_both (ltb (front_below q left) n) _ _ Means
+    (λ output_is.
+    cond_both (ltb (prefix_below q left) n) _ _ Means
     (λ stops. inl (first_not_below q left (omega (arith, ltb-true _ _ stops))))
     (λ reaches.
     let left_below = all_below q left (omega (arith, ltb-false _ _ reaches)) in
-    cond_both (ltb (front_below q right) n) _ _ Means
-    (λ stops. inr (left_below, (front_below q right, refl, first_not_below q right (omega (arith, ltb-true _ _ stops)))))
+    cond_both (ltb (prefix_below q right) n) _ _ Means
+    (λ stops. inr (left_below, (prefix_below q right, refl, first_not_below q right (omega (arith, ltb-true _ _ stops)))))
     (λ far. record {
       left_long = left_long;
       right_long = right_long;
       scratch_long = scratch_long;
-      output_long = eqb-true _ _ output-is;
+      output_long = eqb-true _ _ output_is;
       left_below = left_below;
       right_below = all_below q right (omega (arith, ltb-false _ _ far));
     })))

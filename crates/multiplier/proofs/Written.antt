@@ -1,12 +1,12 @@
 -- A list that holds the product, coefficient by coefficient; what the inner functions are handed once lists are accepted.
-use Rattle.std.proofs.Common.{◌≡◌, ℕ, ◌+◌, ◌-◌, ◌*◌, ◌%◌, ◌^◌, ◌<◌, ◌≤◌, List, ◌++◌, map, length, get_or, Ok, sym, refl, ap, ◌∙◌, subst, ⊎_elim, arith}
+use Rattle.std.proofs.Common.{◌≡◌, ℕ, ◌-◌, ◌*◌, ◌%◌, ◌<◌, ◌≤◌, List, ◌++◌, map, length, get_or, Ok, sym, ap, ◌∙◌, subst, ⊎_elim, arith}
 use Rattle.std.proofs.lemmas.Nat.{mod_below}
 use Rattle.std.proofs.lemmas.List.{ext_get_or, get_or-map, get_or_append_left, get_or-append_right, length-append, length-map}
 use Rattle.std.proofs.lemmas.Bool.{cases_lt}
 use Rattle.element.specs.Products.{product}
-use Rattle.element.proofs.Shapes.{length_product, getD_product}
+use Rattle.element.proofs.Shapes.{length_product, get_or_product}
 use Rattle.multiplier.specs.Multipliers.{AllBelow, multiply_answer}
-use Rattle.multiplier.specs.Sums.{Factors, Rows, negated, coefficient_mod, row_sum}
+use Rattle.multiplier.specs.Sums.{Factors, Rows, negated, coefficient_mod, sum_of_rows}
 use Rattle.multiplier.specs.declared.quotient.QuotientRing.{QuotientRing}
 use Rattle.multiplier.proofs.Coefficients.{row_sum_is_coefficient}
 use Rattle.multiplier.proofs.Refusals.{accepted}
@@ -14,7 +14,7 @@ use Rattle.multiplier.proofs.Refusals.{accepted}
 pub written : (n q : ℕ) (left right output : List ℕ) → length output ≡ n → ((k : ℕ) → k < n → get_or output k 0 ≡ coefficient_mod n q left right k) → output ≡ product n q left right
 written n q left right output long each =
     ext_get_or 0 output (product n q left right) (long ∙ sym (length_product n q left right))
-    (λ k h. each k (omega arith) ∙ sym (getD_product n q left right k 0 (omega arith)))
+    (λ k h. each k (omega arith) ∙ sym (get_or_product n q left right k 0 (omega arith)))
 
 -- a list negated modulo q, and the list
 words_below_q : (q : ℕ) (right : List ℕ) → 0 < q → AllBelow q right → AllBelow q (map (negated q) right ++ right)
@@ -40,10 +40,10 @@ module _ (q : ℕ) (left right : List ℕ) (f : Factors q left right) where
       }
 
   -- the row sums modulo q are the product
-  pub row_sums_are_product : (words result : List ℕ) → words ≡ map (negated q) right ++ right → length result ≡ length left → ((k : ℕ) → k < length left → get_or result k 0 ≡ row_sum left words (length left) k % q) → result ≡ product (length left) q left right
+  pub row_sums_are_product : (words result : List ℕ) → words ≡ map (negated q) right ++ right → length result ≡ length left → ((k : ℕ) → k < length left → get_or result k 0 ≡ sum_of_rows left words (length left) k % q) → result ≡ product (length left) q left right
   row_sums_are_product words result words_are long each =
       written (length left) q left right result long
-      (λ k h. each k h ∙ ap (λ (ws : List ℕ). row_sum left ws (length left) k % q) words_are ∙ row_sum_is_coefficient q left right k f.q_positive f.long h f.right_below)
+      (λ k h. each k h ∙ ap (λ (ws : List ℕ). sum_of_rows left ws (length left) k % q) words_are ∙ row_sum_is_coefficient q left right k f.q_positive f.long h f.right_below)
 
 module _ (ring : QuotientRing) (need : ℕ) (left right : List ℕ) (scratch output : ℕ) (ok : Ok tt ≡ multiply_answer ring.degree ring.modulus.q need left right scratch output) where
   pub factors : Factors ring.modulus.q left right

@@ -1,4 +1,4 @@
 pub mod Multipliers
 pub mod Scratch
 pub mod Sums
-pub mod Degrees
+pub mod LawProofs

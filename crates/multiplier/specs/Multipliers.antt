@@ -1,5 +1,5 @@
 -- What a multiplier is, what it answers, and what its buffers then hold.
-use Rattle.std.specs.Prelude.{◌≡◌, ℕ, ◌+◌, ◌^◌, ◌<◌, ◌≤◌, cond, ltb, ◌⊎◌, List, length, Some, None, Ok, Err, Option, Result, ◌==◌, ◌≢◌, nat_lt, slice_index}
+use Rattle.std.specs.Prelude.{◌≡◌, ℕ, ◌+◌, ◌^◌, ◌<◌, ◌≤◌, cond, ◌⊎◌, List, length, Some, None, Ok, Err, Option, Result, ◌==◌, ◌≢◌, nat_lt, slice_index}
 use Rattle.std.specs.List.{prefix_len}
 use Rattle.ring.specs.Residues.{IsModulus}
 use Rattle.ring.specs.declared.fault.Fault.{Fault}
@@ -21,8 +21,8 @@ ring_from n q (Some ring) = (ring.degree ≡ n) × (ring.modulus.q ≡ q) × IsD
 ring_from n q None = IsDegree n × IsModulus q → ⊥
 
 -- how many come before the first that is not below q
-abbrev pub front_below : ℕ → List ℕ → ℕ
-front_below q xs = prefix_len (λ x. ltb x q) xs
+abbrev pub prefix_below : ℕ → List ℕ → ℕ
+prefix_below q xs = prefix_len (λ x. nat_lt x q) xs
 
 -- each number is below q
 abbrev pub AllBelow : ℕ → List ℕ → Type 0
@@ -36,10 +36,10 @@ multiply_answer n q need left right scratch output =
     (cond (nat_lt scratch need)
     (Err (WrongLength 3))
     (cond (output == n)
-    (cond (nat_lt (front_below q left) n)
-    (Err (OutOfRange (front_below q left)))
-    (cond (nat_lt (front_below q right) n)
-    (Err (OutOfRange (n + front_below q right)))
+    (cond (nat_lt (prefix_below q left) n)
+    (Err (OutOfRange (prefix_below q left)))
+    (cond (nat_lt (prefix_below q right) n)
+    (Err (OutOfRange (n + prefix_below q right)))
     (Ok tt)))
     (Err (WrongLength 4))))
     (Err (WrongLength 2)))
@@ -71,7 +71,8 @@ FirstWrongLength n need left right scratch output place =
 -- what each answer says of the lists and buffers: that they fit, or where they first do not, lengths before numbers
 abbrev pub MultiplyMeans : (n q need : ℕ) (left right : List ℕ) (scratch output : ℕ) → Result (Unit {0}) Fault → Type 0
 MultiplyMeans n q need left right scratch output (Ok _) = Fitting n q need left right scratch output
-MultiplyMeans n q need left right scratch output (Err (WrongLength place)) = FirstWrongLength n need (length left) (length right) scratch output place
+MultiplyMeans n q need left right scratch output (Err (WrongLength place)) =
+    FirstWrongLength n need (length left) (length right) scratch output place
 MultiplyMeans n q need left right scratch output (Err (OutOfRange place)) =
     FirstNotBelow q left place ⊎ (AllBelow q left × ((i : ℕ) × (place ≡ n + i) × FirstNotBelow q right i))
 MultiplyMeans n q need left right scratch output (Err (SumTooLarge place)) = ⊥
@@ -80,4 +81,6 @@ MultiplyMeans n q need left right scratch output (Err (SourceSpent place)) = ⊥
 
 -- every two lists, and buffers of every length
 abbrev pub MultiplyRefusesTheFirst : Type 0
-MultiplyRefusesTheFirst = (n q need : ℕ) (left right : List ℕ) (scratch output : ℕ) → MultiplyMeans n q need left right scratch output (multiply_answer n q need left right scratch output)
+MultiplyRefusesTheFirst =
+    (n q need : ℕ) (left right : List ℕ) (scratch output : ℕ)
+    → MultiplyMeans n q need left right scratch output (multiply_answer n q need left right scratch output)

@@ -1,5 +1,5 @@
 -- The sums that the two multipliers add up in natural numbers, before one reduction modulo q.
-use Rattle.std.specs.Prelude.{◌≡◌, ℕ, zero, suc, ◌+◌, ◌-◌, ◌*◌, ◌%◌, ◌^◌, ◌<◌, ◌≤◌, List, map, length, ℤ, pos, slice_index}
+use Rattle.std.specs.Prelude.{◌≡◌, ℕ, zero, suc, ◌+◌, ◌-◌, ◌*◌, ◌%◌, ◌^◌, ◌<◌, ◌≤◌, List, map, length, pos, slice_index}
 use Rattle.ring.specs.Residues.{residue}
 use Rattle.element.specs.Products.{coefficient, at}
 use Rattle.multiplier.specs.Multipliers.{AllBelow}
@@ -18,12 +18,12 @@ abbrev pub coefficient_mod : (n q : ℕ) (left right : List ℕ) (k : ℕ) → �
 coefficient_mod n q left right k = residue q (coefficient n (at (map pos left)) (at (map pos right)) k)
 
 -- the sum of left_i right_j over i + j = m - 1, for two lists of m numbers
-abbrev pub reversed_dot : (left right : List ℕ) → ℕ
-reversed_dot left right = nat_sum (length left) (λ i. slice_index left i * slice_index right (length left - 1 - i))
+abbrev pub antidiagonal_sum : (left right : List ℕ) → ℕ
+antidiagonal_sum left right = nat_sum (length left) (λ i. slice_index left i * slice_index right (length left - 1 - i))
 
 -- what the first m rows add up to in the coefficient k
-abbrev pub row_sum : (left words : List ℕ) (m k : ℕ) → ℕ
-row_sum left words m k = nat_sum m (λ i. slice_index left i * slice_index words (length left - i + k))
+abbrev pub sum_of_rows : (left words : List ℕ) (m k : ℕ) → ℕ
+sum_of_rows left words m k = nat_sum m (λ i. slice_index left i * slice_index words (length left - i + k))
 
 -- two lists of one length, at most 1024, of numbers below q
 pub record Factors (q : ℕ) (left right : List ℕ) : Type 0 where

@@ -1,13 +1,13 @@
 // What is tested before a product is made.
 ghost use Rattle.std.specs.Prelude.{◌≡◌};
-ghost use Rattle.multiplier.specs.Multipliers.{MultiplyRefusesTheFirst, front_below, multiply_answer};
+ghost use Rattle.multiplier.specs.Multipliers.{MultiplyRefusesTheFirst, prefix_below, multiply_answer};
 
 use crate::quotient::QuotientRing;
 use ring::Fault;
 
 // How many numbers come before the first that is not below q.
 fn front_below(xs: &[u32], q: u32) -> usize
-    ensures { result ≡ front_below q xs.now }
+    ensures { result ≡ prefix_below q xs.now }
 {
     for (i, x) in xs.iter().enumerate() {
         if *x >= q {
@@ -52,7 +52,9 @@ pub(crate) fn check(
     Ok(())
 }
 
-// Multiplying accepts exactly the lists and buffers that fit, and refuses any others at the first place where they do not.
+// Multiplying accepts exactly the lists and buffers that fit, and refuses any others at the first place where they do
+// not.
+#[tactic(auto, using(crate::proofs::Refusals::multiply_means))]
 pub fn multiply_refuses_the_first()
     ensures { MultiplyRefusesTheFirst }
 {}

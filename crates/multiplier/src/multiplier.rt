@@ -34,7 +34,8 @@ pub trait Multiplier {
         scratch: &mut [u32],
         output: &mut [u32],
     ) -> Result<(), Fault>
-        ensures answer { result ≡ multiply_answer (n self.old) (q self.old) (need self.old) left.now right.now (length scratch.old) (length output.old) }
+        ensures answer { result ≡ multiply_answer (n self.old) (q self.old) (need self.old) left.now right.now
+            (length scratch.old) (length output.old) }
         ensures writes { output.new ≡ after result (product (n self.old) (q self.old) left.now right.now) output.old }
         ensures clears { scratch.new ≡ zeroed scratch.old }
         ensures same_degree { n self.new ≡ n self.old }

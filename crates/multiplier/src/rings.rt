@@ -8,7 +8,8 @@ use ring::Modulus;
 const LARGEST_DEGREE: usize = 1024;
 
 impl QuotientRing {
-    // The ring of degree n and modulus q, unless n is no power of two from 1 to 1024, or q is even, below 3, or 2^23 or more.
+    // The ring of degree n and modulus q, unless n is no power of two from 1 to 1024, or q is even, below 3, or 2^23 or
+    // more.
     pub fn new(n: usize, q: u32) -> Option<Self>
         ensures { ring_from n q result }
     {

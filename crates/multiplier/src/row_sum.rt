@@ -2,9 +2,8 @@
 ghost use Rattle.std.specs.Prelude.{◌≡◌, ℕ, ◌+◌, ◌-◌, ◌*◌, ◌%◌, ◌^◌, ◌<◌, ◌≤◌, ◌++◌, map, length, slice_index};
 ghost use Rattle.element.specs.Products.{product};
 ghost use Rattle.multiplier.specs.Multipliers.{AllBelow};
-ghost use Rattle.multiplier.specs.Sums.{Factors, Rows, negated, row_sum};
-ghost use Rattle.std.proofs.Common.{arith};
-ghost use Rattle.multiplier.specs.Degrees.{ring_in_range};
+ghost use Rattle.multiplier.specs.Sums.{Factors, Rows, negated, sum_of_rows};
+ghost use Rattle.multiplier.specs.LawProofs.{row_sum_in_range};
 
 use crate::checks::check;
 use crate::multiplier::Multiplier;
@@ -12,8 +11,8 @@ use crate::quotient::QuotientRing;
 use crate::scratch::ScratchGuard;
 use ring::Fault;
 
-// Multiplies by adding multiples of rows, with 2n words of scratch: the right list negated, then the right list. The n words
-// from place n - i on are the right list times x^i.
+// Multiplies by adding multiples of rows, with 2n words of scratch: the right list negated, then the right list. The n
+// words from place n - i on are the right list times x^i.
 #[derive(Clone, Copy)]
 pub struct RowSum {
     ring: QuotientRing,
@@ -48,7 +47,8 @@ fn write_words(right: &[u32], q: u32, words: &mut [u32])
 fn add_multiple(sums: &mut [u64], x: u32, row: &[u32])
     requires long { length row.now ≡ length sums.old }
     requires fits { (t : ℕ) → t < length sums.old → slice_index sums.old t + x * slice_index row.now t < 2 ^ 64 }
-    ensures { (t : ℕ) → t < length sums.old → slice_index sums.new t ≡ slice_index sums.old t + x * slice_index row.now t }
+    ensures { (t : ℕ) → t < length sums.old
+        → slice_index sums.new t ≡ slice_index sums.old t + x * slice_index row.now t }
 {
     for (t, y) in row.iter().enumerate() {
         sums[t] += u64::from(x) * u64::from(*y);
@@ -56,11 +56,13 @@ fn add_multiple(sums: &mut [u64], x: u32, row: &[u32])
 }
 
 // Adds all rows to the sums, which are those of the coefficients from `start` on.
+#[tactic(auto, using(crate::proofs::Rows::row_steps))]
 fn add_rows(left: &[u32], words: &[u32], start: usize, sums: &mut [u64])
     requires rows { Rows left.now words.now }
     requires inside { start + length sums.old ≤ length left.now }
     requires zero { (t : ℕ) → t < length sums.old → slice_index sums.old t ≡ 0 }
-    ensures { (t : ℕ) → t < length sums.old → slice_index sums.new t ≡ row_sum left.now words.now (length left.now) (start + t) }
+    ensures { (t : ℕ) → t < length sums.old
+        → slice_index sums.new t ≡ sum_of_rows left.now words.now (length left.now) (start + t) }
 {
     let n = left.len();
     let many = sums.len();
@@ -76,7 +78,8 @@ fn write_tile(left: &[u32], words: &[u32], q: u32, start: usize, output: &mut [u
     requires tile { length output.old ≡ 4 }
     requires inside { start + 4 ≤ length left.now }
     requires positive { 0 < q }
-    ensures { (t : ℕ) → t < 4 → slice_index output.new t ≡ row_sum left.now words.now (length left.now) (start + t) % q }
+    ensures { (t : ℕ) → t < 4
+        → slice_index output.new t ≡ sum_of_rows left.now words.now (length left.now) (start + t) % q }
 {
     let mut sums = [0; TILE];
     add_rows(left, words, start, &mut sums);
@@ -90,7 +93,7 @@ fn coefficient(left: &[u32], words: &[u32], q: u32, k: usize) -> u32
     requires rows { Rows left.now words.now }
     requires inside { k < length left.now }
     requires positive { 0 < q }
-    ensures { result ≡ row_sum left.now words.now (length left.now) k % q }
+    ensures { result ≡ sum_of_rows left.now words.now (length left.now) k % q }
 {
     let mut sums = [0; 1];
     add_rows(left, words, k, &mut sums);
@@ -102,7 +105,8 @@ fn write_sums(left: &[u32], words: &[u32], q: u32, output: &mut [u32])
     requires rows { Rows left.now words.now }
     requires long { length output.old ≡ length left.now }
     requires positive { 0 < q }
-    ensures { (k : ℕ) → k < length output.old → slice_index output.new k ≡ row_sum left.now words.now (length left.now) k % q }
+    ensures { (k : ℕ) → k < length output.old
+        → slice_index output.new k ≡ sum_of_rows left.now words.now (length left.now) k % q }
 {
     let n = left.len();
     let mut start = 0;
@@ -116,6 +120,7 @@ fn write_sums(left: &[u32], words: &[u32], q: u32, output: &mut [u32])
 }
 
 // Writes the product, by way of 2n words.
+#[tactic(auto, using(crate::proofs::Written::rows, crate::proofs::Written::row_sums_are_product))]
 fn write_product(left: &[u32], right: &[u32], q: u32, words: &mut [u32], output: &mut [u32])
     requires factors { Factors q left.now right.now }
     requires words_long { length words.old ≡ 2 * length left.now }
@@ -133,7 +138,7 @@ impl Multiplier for RowSum {
 
     ghost need = { λ m. 2 * m.ring.degree };
 
-    ghost lawful = { λ m. ring_in_range m.ring _ (omega (arith, m.ring.most)) };
+    ghost lawful = { λ m. row_sum_in_range m.ring };
 
     fn degree(&self) -> usize {
         self.ring.degree()
@@ -147,6 +152,7 @@ impl Multiplier for RowSum {
         2 * self.ring.degree()
     }
 
+    #[tactic(auto, using(crate::proofs::Written::factors))]
     fn multiply(
         &mut self,
         left: &[u32],

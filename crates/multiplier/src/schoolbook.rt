@@ -1,9 +1,8 @@
 // The schoolbook product: for each coefficient in turn its sum.
 ghost use Rattle.std.specs.Prelude.{◌≡◌, ◌*◌, ◌<◌, ◌≤◌, length};
 ghost use Rattle.element.specs.Products.{product};
-ghost use Rattle.multiplier.specs.Sums.{Factors, reversed_dot, coefficient_mod};
-ghost use Rattle.std.proofs.Common.{arith};
-ghost use Rattle.multiplier.specs.Degrees.{ring_in_range};
+ghost use Rattle.multiplier.specs.Sums.{Factors, antidiagonal_sum, coefficient_mod};
+ghost use Rattle.multiplier.specs.LawProofs.{schoolbook_in_range};
 
 use crate::checks::check;
 use crate::multiplier::Multiplier;
@@ -26,9 +25,10 @@ impl Schoolbook {
 }
 
 // The sum of left[i] right[m - 1 - i], for two lists of m numbers below q.
+#[tactic(auto, using(crate::proofs::NaturalSums::sum_steps))]
 fn reversed_dot(left: &[u32], right: &[u32], q: u32) -> u64
     requires { Factors q left.now right.now }
-    ensures value { result ≡ reversed_dot left.now right.now }
+    ensures value { result ≡ antidiagonal_sum left.now right.now }
     ensures bound { result ≤ length left.now * (q * q) }
 {
     let m = left.len();
@@ -40,6 +40,7 @@ fn reversed_dot(left: &[u32], right: &[u32], q: u32) -> u64
 }
 
 // The coefficient k of the product: the pairs with i + j = k, less those with i + j = k + n.
+#[tactic(auto, using(crate::proofs::ReversedDots::difference_of_parts))]
 fn coefficient(left: &[u32], right: &[u32], k: usize, q: u32) -> u32
     requires inside { k < length left.now }
     requires factors { Factors q left.now right.now }
@@ -54,6 +55,7 @@ fn coefficient(left: &[u32], right: &[u32], k: usize, q: u32) -> u32
     ((plus + lift - minus) % modulus) as u32
 }
 
+#[tactic(auto, using(crate::proofs::Written::written))]
 fn write_product(left: &[u32], right: &[u32], q: u32, output: &mut [u32])
     requires long { length output.old ≡ length left.now }
     requires factors { Factors q left.now right.now }
@@ -71,7 +73,7 @@ impl Multiplier for Schoolbook {
 
     ghost need = { λ _. 0 };
 
-    ghost lawful = { λ m. ring_in_range m.ring _ (omega (arith, m.ring.most)) };
+    ghost lawful = { λ m. schoolbook_in_range m.ring };
 
     fn degree(&self) -> usize {
         self.ring.degree()
@@ -85,6 +87,7 @@ impl Multiplier for Schoolbook {
         0
     }
 
+    #[tactic(auto, using(crate::proofs::Written::factors))]
     fn multiply(
         &mut self,
         left: &[u32],

@@ -1,0 +1,49 @@
+-- No definitions: the proofs of the multipliers' law, which the source cites. A ring's degree is a power of two, since
+-- one bit of it is set.
+use Rattle.std.specs.Prelude.{◌≡◌, ℕ, zero, suc, ◌*◌, ◌/◌, ◌%◌, ◌^◌, ◌<◌, ◌≤◌}
+use Rattle.std.proofs.Common.{inl, inr, ⊎_elim, ap, ◌∙◌, pow-suc, arith, pow_pos, pow_mono}
+use Rattle.std.specs.Int.Count.{ones, ones_step}
+use Rattle.std.proofs.lemmas.Nat.{ones_cat, ones_le_self, zero_from_ones}
+use Rattle.std.proofs.lemmas.Bool.{cases_eq}
+use Rattle.multiplier.specs.Multipliers.{IsDegree, InRange}
+use Rattle.multiplier.specs.declared.quotient.QuotientRing.{QuotientRing}
+
+one_bit : (k n : ℕ) → n < 2 ^ k → ones n ≡ 1 → (m : ℕ) × (m < k) × (n ≡ 2 ^ m)
+one_bit zero n h one = absurd (omega (arith, ones_le_self n))
+one_bit (suc k) n h one =
+    let step = ones_step n in
+    let low : n / 2 < 2 ^ k = omega (arith, pow-suc 2 k) in
+    ⊎_elim
+    (λ (odd : n % 2 ≡ 1). let none = zero_from_ones (n / 2) (omega arith) in (0, omega arith, omega arith))
+    (λ (even : n % 2 ≡ 0).
+    let rest = one_bit k (n / 2) low (omega arith) in
+    (suc rest.0, omega (arith, rest.1), omega (arith, rest.2, pow-suc 2 rest.0)))
+    (⊎_elim (λ odd. inl odd) (λ other. inr (omega arith)) (cases_eq (n % 2) 1))
+
+pub degree_from_ones : (n : ℕ) → ones n ≡ 1 → n ≤ 1024 → IsDegree n
+degree_from_ones n one most =
+    let m = one_bit 11 n (omega arith) one in
+    (m.0, omega (arith, m.1), m.2)
+
+pub ones_of_degree : (n : ℕ) → IsDegree n → ones n ≡ 1
+unfolding ones
+ones_of_degree n (m, most, is) = ap ones (is ∙ omega arith) ∙ ones_cat m 1 0 (pow_pos m)
+
+pub degree_most : (n : ℕ) → IsDegree n → n ≤ 1024
+degree_most n (m, most, is) = let bound : 2 ^ m ≤ 2 ^ 10 = pow_mono most in omega arith
+
+module _ (ring : QuotientRing) where
+  in_range : (need : ℕ) → need ≤ 65536 → InRange ring.degree ring.modulus.q need
+  in_range need most = record {
+    degree = degree_from_ones ring.degree ring.power ring.most;
+    modulus = record { odd = ring.modulus.odd; at_least = ring.modulus.at_least; below = ring.modulus.below };
+    need_most = most;
+  }
+
+  -- with no scratch words
+  pub schoolbook_in_range : InRange ring.degree ring.modulus.q 0
+  schoolbook_in_range = in_range 0 (omega arith)
+
+  -- with two scratch words for each coefficient
+  pub row_sum_in_range : InRange ring.degree ring.modulus.q (2 * ring.degree)
+  row_sum_in_range = in_range (2 * ring.degree) (omega (arith, ring.most))
