@@ -16,20 +16,16 @@ block_at m i = take 168 (drop (168 * i) m)
 unfoldable pub after_blocks : List ℕ → ℕ → List ℕ
 after_blocks m n = fold absorbed_block (replicate 25 0) (map (block_at m) (range_with_len 0 n))
 
-pub after_none : (m : List ℕ) → replicate 25 0 ≡ after_blocks m 0
+pub after_none : (m : List ℕ) → after_blocks m 0 ≡ replicate 25 0
 unfolding after_blocks
 after_none m = refl
 
-after_step : (m : List ℕ) (n : ℕ) → after_blocks m (n + 1) ≡ absorbed_block (after_blocks m n) (block_at m n)
-unfolding after_blocks
-after_step m n =
+pub after_more : (m : List ℕ) (n size : ℕ) → size ≡ 168 → after_blocks m (n + 1) ≡ keccak_f (added (after_blocks m n) (take size (drop (168 * n) m)))
+unfolding after_blocks absorbed_block
+after_more m n size whole =
     ap (fold absorbed_block (replicate 25 0)) (map-range_with_len_more (block_at m) 0 n n (omega arith))
     ∙ fold_push absorbed_block (replicate 25 0) (map (block_at m) (range_with_len 0 n)) (block_at m n)
-
-pub after_more : (m s b t u : List ℕ) (n : ℕ) → s ≡ after_blocks m n → b ≡ block_at m n → t ≡ added s b → u ≡ keccak_f t → u ≡ after_blocks m (n + 1)
-unfolding absorbed_block
-after_more m s b t u n is block by-adding by-permuting =
-    by-permuting ∙ ap keccak_f (by-adding ∙ ap (λ a. added a b) is ∙ ap (added (after_blocks m n)) block) ∙ sym (after_step m n)
+    ∙ ap (λ k. absorbed_block (after_blocks m n) (take k (drop (168 * n) m))) (sym whole)
 
 map_same : {X : Type 0} (d : X) (f g : ℕ → X) (n : ℕ) → ((k : ℕ) → k < n → f k ≡ g k) → map f (range_with_len 0 n) ≡ map g (range_with_len 0 n)
 map_same d f g n same =
@@ -57,12 +53,12 @@ blocks_padded m p n within whole =
 -- the whole message: its whole blocks, and the rest with its padding
 pub absorbed_is : (m rest s last t : List ℕ) → rest ≡ drop (168 * (length m / 168)) m → s ≡ after_blocks m (length m / 168) → last ≡ rest ++ padding (rate - length rest) → t ≡ added s last → keccak_f t ≡ absorbed m
 unfolding absorbed absorbed_block after_blocks
-absorbed_is m rest s last t is-rest is_state is_last by-adding =
+absorbed_is m rest s last t is_rest is_state is_last by_adding =
     let n : ℕ = length m / 168 in
     let p : List ℕ = padding (rate - length m % rate) in
-    let size : length rest ≡ length m % rate = ap length is-rest ∙ length-drop (168 * n) m ∙ omega arith in
+    let size : length rest ≡ length m % rate = ap length is_rest ∙ length-drop (168 * n) m ∙ omega arith in
     let lacking : length p ≡ rate - length m % rate = length_padding (rate - length m % rate) (omega arith) in
-    let block : last ≡ drop (168 * n) m ++ p = is_last ∙ ap (λ k. rest ++ padding (rate - k)) size ∙ ap (λ r. r ++ p) is-rest in
-    ap keccak_f (by-adding ∙ ap (λ a. added a last) is_state ∙ ap (added (after_blocks m n)) block)
+    let block : last ≡ drop (168 * n) m ++ p = is_last ∙ ap (λ k. rest ++ padding (rate - k)) size ∙ ap (λ r. r ++ p) is_rest in
+    ap keccak_f (by_adding ∙ ap (λ a. added a last) is_state ∙ ap (added (after_blocks m n)) block)
     ∙ sym (fold_push absorbed_block (replicate 25 0) (map (block_at m) (range_with_len 0 n)) (drop (168 * n) m ++ p))
     ∙ sym (ap (fold absorbed_block (replicate 25 0)) (blocks_padded m p n (omega arith) (omega arith)))

@@ -27,7 +27,7 @@ abbrev pub Filled : (ℕ → ℕ → ℕ) → List ℕ → ℕ → Type 0
 Filled f out n = Listed (placed f) 25 out n
 
 pub filled_more : (f : ℕ → ℕ → ℕ) (out : List ℕ) (x y v : ℕ) → x < 5 → y < 5 → Filled f out (x + 5 * y) → v ≡ f x y → Filled f (set out (x + 5 * y) v) (x + 1 + 5 * y)
-filled_more f out x y v below-x below-y before is =
+filled_more f out x y v below_x below_y before is =
     let column : (x + 5 * y) % 5 ≡ x = omega arith in
     let row : (x + 5 * y) / 5 ≡ y = omega arith in
     let here : placed f (x + 5 * y) ≡ f x y = ap (λ a. f a ((x + 5 * y) / 5)) column ∙ ap (f x) row in

@@ -1,22 +1,17 @@
 -- The loop over the rounds.
-use Rattle.std.proofs.Common.{◌≡◌, ℕ, suc, ◌+◌, List, sym, refl, ap, ◌∙◌, add-one}
+use Rattle.std.proofs.Common.{◌≡◌, ℕ, ◌+◌, List, refl, add-one}
 use Rattle.keccak.specs.Permutation.{theta, rho, pi, chi, iota, one_round, rounds, keccak_f}
 
-pub rounds_none : (s : List ℕ) → s ≡ rounds 0 s
+pub rounds_none : (s : List ℕ) → rounds 0 s ≡ s
 unfolding rounds
 rounds_none s = refl
 
-rounds_suc : (n : ℕ) (s : List ℕ) → rounds (suc n) s ≡ one_round n (rounds n s)
-unfolding rounds
-rounds_suc n s = refl
+pub rounds_more : (n : ℕ) (s : List ℕ) → rounds (n + 1) s ≡ iota n (chi (pi (rho (theta (rounds n s)))))
+unfolding rounds one_round
+rounds_more n s = rw add-one
 
--- one turn: what each step made of what the one before left
-pub rounds_more : (n : ℕ) (start s a b c d e : List ℕ) → s ≡ rounds n start → a ≡ theta s → b ≡ rho a → c ≡ pi b → d ≡ chi c → e ≡ iota n d → e ≡ rounds (n + 1) start
-unfolding one_round
-rounds_more n start s a b c d e is by-theta by-rho by-pi by-chi by-iota =
-    by-iota ∙ ap (iota n) (by-chi ∙ ap chi (by-pi ∙ ap pi (by-rho ∙ ap rho (by-theta ∙ ap theta is))))
-    ∙ sym (rounds_suc n start) ∙ ap (λ k. rounds k start) (sym (add-one n))
-
-pub rounds_all : (n : ℕ) (start s : List ℕ) → n ≡ 24 → s ≡ rounds n start → s ≡ keccak_f start
+pub rounds_all : (s : List ℕ) → keccak_f s ≡ rounds 24 s
 unfolding keccak_f
-rounds_all n start s whole is = is ∙ ap (λ k. rounds k start) whole
+rounds_all s = refl
+
+pub ruleset round_steps = (rounds_none, rounds_more, rounds_all)

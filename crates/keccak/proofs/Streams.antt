@@ -1,7 +1,7 @@
 -- The output of a sponge, block after block.
-use Rattle.std.proofs.Common.{◌≡◌, ℕ, zero, suc, ◌+◌, ◌-◌, ◌*◌, ◌/◌, ◌%◌, ◌<◌, ◌≤◌, List, [], ◌++◌, length, get_or, take, sym, refl, ap, ◌∙◌, inl, inr, append_assoc, add-one, arith, length-append}
+use Rattle.std.proofs.Common.{◌≡◌, ℕ, zero, suc, ◌+◌, ◌-◌, ◌*◌, ◌/◌, ◌%◌, ◌<◌, ◌≤◌, List, [], ◌++◌, length, get_or, take, sym, refl, ap, ◌∙◌, inl, inr, add-one, arith, length-append}
 use Rattle.std.proofs.lemmas.List.FromFn.{length-map-range_with_len}
-use Rattle.std.proofs.lemmas.List.{append-nil, get_or_append_left, get_or-append_right, get_or-take, ext_get_or, length-take-le}
+use Rattle.std.proofs.lemmas.List.{get_or_append_left, get_or-append_right, get_or-take, ext_get_or, length-take-le}
 use Rattle.std.proofs.lemmas.Bool.{cases_lt}
 use Rattle.keccak.specs.Laws.{permuted}
 use Rattle.keccak.specs.Permutation.{keccak_f}
@@ -51,9 +51,9 @@ stream_byte_at s n j below =
     let place : (168 * n + j) % 168 ≡ j = omega arith in
     ap (λ b. get_or (output_block (permuted b s)) ((168 * n + j) % 168) 0) block ∙ ap (λ p. get_or (output_block (permuted n s)) p 0) place
 
-pub getD_squeezed : (n k : ℕ) (s : List ℕ) → k < 168 * n → get_or (squeezed n s) k 0 ≡ stream_byte s k
-getD_squeezed zero k s below = absurd (omega arith)
-getD_squeezed (suc n) k s below =
+pub squeezed_byte : (n k : ℕ) (s : List ℕ) → k < 168 * n → get_or (squeezed n s) k 0 ≡ stream_byte s k
+squeezed_byte zero k s below = absurd (omega arith)
+squeezed_byte (suc n) k s below =
     ap (λ l. get_or l k 0) (squeezed_suc n s)
     ∙ elim (cases_lt k 168) [
       | inl first ↦
@@ -65,43 +65,26 @@ getD_squeezed (suc n) k s below =
           let block : suc ((k - 168) / 168) ≡ k / 168 = omega arith in
           let place : (k - 168) % 168 ≡ k % 168 = omega arith in
           get_or-append_right (output_block s) (squeezed n (keccak_f s)) 168 k 0 (length_output_block s) later
-          ∙ getD_squeezed n (k - 168) (keccak_f s) (omega arith)
+          ∙ squeezed_byte n (k - 168) (keccak_f s) (omega arith)
           ∙ ap (λ t. get_or (output_block t) ((k - 168) % 168) 0) (permuted_first ((k - 168) / 168) s ∙ sym (permuted_suc ((k - 168) / 168) s))
           ∙ ap (λ b. get_or (output_block (permuted b s)) ((k - 168) % 168) 0) block
           ∙ ap (λ p. get_or (output_block (permuted (k / 168) s)) p 0) place
     ]
 
--- one block more at the end
-squeezed_last : (n : ℕ) (s : List ℕ) → squeezed (suc n) s ≡ squeezed n s ++ output_block (permuted n s)
-squeezed_last zero s =
-    squeezed_suc zero s ∙ ap (λ l. output_block s ++ l) (squeezed_none (keccak_f s)) ∙ append-nil (output_block s)
-    ∙ ap output_block (sym (permuted_none s)) ∙ ap (λ l. l ++ output_block (permuted 0 s)) (sym (squeezed_none s))
-squeezed_last (suc n) s =
-    squeezed_suc (suc n) s ∙ ap (λ l. output_block s ++ l) (squeezed_last n (keccak_f s))
-    ∙ sym (append_assoc (output_block s) (squeezed n (keccak_f s)) (output_block (permuted n (keccak_f s))))
-    ∙ ap (λ l. l ++ output_block (permuted n (keccak_f s))) (sym (squeezed_suc n s))
-    ∙ ap (λ t. squeezed (suc n) s ++ output_block t) (permuted_first n s ∙ sym (permuted_suc n s))
-
-pub squeezed_more : (n : ℕ) (s : List ℕ) → squeezed (n + 1) s ≡ squeezed n s ++ output_block (permuted n s)
-squeezed_more n s = ap (λ k. squeezed k s) (add-one n) ∙ squeezed_last n s
-
 pub length_shake128 : (m : List ℕ) (d : ℕ) → length (shake128 m d) ≡ d
 unfolding shake128
 length_shake128 m d = length-take-le d (squeezed (d / 168 + 1) (absorbed m)) (omega (arith, length_squeezed (d / 168 + 1) (absorbed m)))
 
-pub getD_shake128 : (m : List ℕ) (d k : ℕ) → k < d → get_or (shake128 m d) k 0 ≡ stream_byte (absorbed m) k
+pub shake128_byte : (m : List ℕ) (d k : ℕ) → k < d → get_or (shake128 m d) k 0 ≡ stream_byte (absorbed m) k
 unfolding shake128
-getD_shake128 m d k below = get_or-take d (squeezed (d / 168 + 1) (absorbed m)) k 0 below ∙ getD_squeezed (d / 168 + 1) k (absorbed m) (omega arith)
+shake128_byte m d k below = get_or-take d (squeezed (d / 168 + 1) (absorbed m)) k 0 below ∙ squeezed_byte (d / 168 + 1) k (absorbed m) (omega arith)
 
 -- a list of d bytes that are those of the output is the output
 pub shake128_from_bytes : (m out : List ℕ) (d : ℕ) → length out ≡ d → ((k : ℕ) → k < d → get_or out k 0 ≡ stream_byte (absorbed m) k) → out ≡ shake128 m d
 shake128_from_bytes m out d long all =
-    ext_get_or 0 out (shake128 m d) (long ∙ sym (length_shake128 m d)) (λ k h. all k (omega arith) ∙ sym (getD_shake128 m d k (omega arith)))
+    ext_get_or 0 out (shake128 m d) (long ∙ sym (length_shake128 m d)) (λ k h. all k (omega arith) ∙ sym (shake128_byte m d k (omega arith)))
 
 pub take_shake128 : (m : List ℕ) (d e : ℕ) → d ≤ e → take d (shake128 m e) ≡ shake128 m d
 take_shake128 m d e below =
     shake128_from_bytes m (take d (shake128 m e)) d (length-take-le d (shake128 m e) (omega (arith, length_shake128 m e)))
-    (λ k h. get_or-take d (shake128 m e) k 0 h ∙ getD_shake128 m e k (omega arith))
-
-pub shake128_whole : (m : List ℕ) (n : ℕ) → shake128 m (168 * n) ≡ squeezed n (absorbed m)
-shake128_whole m n = sym (shake128_from_bytes m (squeezed n (absorbed m)) (168 * n) (length_squeezed n (absorbed m)) (λ k h. getD_squeezed n k (absorbed m) h))
+    (λ k h. get_or-take d (shake128 m e) k 0 h ∙ shake128_byte m e k (omega arith))

@@ -11,14 +11,14 @@ use Rattle.keccak.proofs.Streams.{stream_byte, stream_byte_at, length_output_blo
 abbrev pub Written : List ℕ → List ℕ → ℕ → Type 0
 Written s out n = (k : ℕ) → k < n → k < length out → get_or out k 0 ≡ stream_byte s k
 
-module _ (s out part : List ℕ) (i size : ℕ) (starts : 168 * i ≤ length out) (is-size : size ≡ min 168 (length out - 168 * i)) (is-part : part ≡ take (size - 0) (output_block (permuted i s))) where
+module _ (s out part : List ℕ) (i size : ℕ) (starts : 168 * i ≤ length out) (is_size : size ≡ min 168 (length out - 168 * i)) (is_part : part ≡ take (size - 0) (output_block (permuted i s))) where
   length_part : length part ≡ size
   length_part =
-      ap length is-part ∙ length-take (size - 0) (output_block (permuted i s)) ∙ omega (arith, length_output_block (permuted i s))
+      ap length is_part ∙ length-take (size - 0) (output_block (permuted i s)) ∙ omega (arith, length_output_block (permuted i s))
 
-  get_d_part : (j : ℕ) → j < size → get_or part j 0 ≡ stream_byte s (168 * i + j)
-  get_d_part j below =
-      ap (λ l. get_or l j 0) is-part ∙ get_or-take (size - 0) (output_block (permuted i s)) j 0 (omega arith) ∙ sym (stream_byte_at s i j (omega arith))
+  part_byte : (j : ℕ) → j < size → get_or part j 0 ≡ stream_byte s (168 * i + j)
+  part_byte j below =
+      ap (λ l. get_or l j 0) is_part ∙ get_or-take (size - 0) (output_block (permuted i s)) j 0 (omega arith) ∙ sym (stream_byte_at s i j (omega arith))
 
   pub written_more : Written s out (168 * i) → Written s (put_mid (168 * i) (168 * i + size - 168 * i) out part) (168 * (i + 1))
   written_more before k below within =
@@ -34,6 +34,6 @@ module _ (s out part : List ℕ) (i size : ℕ) (starts : 168 * i ≤ length out
             let place : 168 * i + (k - 168 * i) ≡ k = omega arith in
             get_or-append_right front (part ++ after) (168 * i) k 0 long here
             ∙ get_or_append_left part after 0 (k - 168 * i) (omega (arith, length_part))
-            ∙ get_d_part (k - 168 * i) (omega arith)
+            ∙ part_byte (k - 168 * i) (omega arith)
             ∙ ap (stream_byte s) place
       ]

@@ -1,5 +1,7 @@
--- The permutation Keccak-f[1600] of FIPS 202, section 3. A state is a list of 25 lanes of 64 bits: lane (x, y) is number x + 5 * y, and bit z of a lane has the weight 2 ^ z.
-use Rattle.std.specs.Prelude.{ℕ, zero, suc, ◌+◌, ◌-◌, ◌*◌, ◌/◌, ◌%◌, ◌^◌, List, [], ◌∷◌, map, bit_and, bit_or, bit_xor, slice_index, slice_set}
+-- The permutation Keccak-f[1600] of FIPS 202, section 3. A state is a list of 25 lanes of 64 bits: lane (x, y) is
+-- number x + 5 * y, and bit z of a lane has the weight 2 ^ z.
+use Rattle.std.specs.Prelude.{ℕ, zero, suc, ◌+◌, ◌-◌, ◌*◌, ◌/◌, ◌%◌, ◌^◌, bit_and, bit_or, bit_xor}
+use Rattle.std.specs.Prelude.{List, [], ◌∷◌, map, slice_index, slice_set}
 use Rattle.std.specs.List.{range_with_len}
 
 abbrev pub lane : List ℕ → ℕ → ℕ → ℕ
@@ -33,7 +35,13 @@ theta s = by_lane (theta_lane s)
 
 -- the offsets of rho, by x + 5 * y
 abbrev pub rotation_offsets : List ℕ
-rotation_offsets = 0 ∷ 1 ∷ 62 ∷ 28 ∷ 27 ∷ 36 ∷ 44 ∷ 6 ∷ 55 ∷ 20 ∷ 3 ∷ 10 ∷ 43 ∷ 25 ∷ 39 ∷ 41 ∷ 45 ∷ 15 ∷ 21 ∷ 8 ∷ 18 ∷ 2 ∷ 61 ∷ 56 ∷ 14 ∷ []
+rotation_offsets =
+    0 ∷ 1 ∷ 62 ∷ 28 ∷ 27
+    ∷ 36 ∷ 44 ∷ 6 ∷ 55 ∷ 20
+    ∷ 3 ∷ 10 ∷ 43 ∷ 25 ∷ 39
+    ∷ 41 ∷ 45 ∷ 15 ∷ 21 ∷ 8
+    ∷ 18 ∷ 2 ∷ 61 ∷ 56 ∷ 14
+    ∷ []
 
 abbrev pub rho_lane : List ℕ → ℕ → ℕ → ℕ
 rho_lane s x y = rotated (lane s x y) (slice_index rotation_offsets (x + 5 * y))
@@ -55,7 +63,14 @@ chi s = by_lane (chi_lane s)
 
 -- RC of iota, by the round
 abbrev pub round_constants : List ℕ
-round_constants = 0x0000000000000001 ∷ 0x0000000000008082 ∷ 0x800000000000808a ∷ 0x8000000080008000 ∷ 0x000000000000808b ∷ 0x0000000080000001 ∷ 0x8000000080008081 ∷ 0x8000000000008009 ∷ 0x000000000000008a ∷ 0x0000000000000088 ∷ 0x0000000080008009 ∷ 0x000000008000000a ∷ 0x000000008000808b ∷ 0x800000000000008b ∷ 0x8000000000008089 ∷ 0x8000000000008003 ∷ 0x8000000000008002 ∷ 0x8000000000000080 ∷ 0x000000000000800a ∷ 0x800000008000000a ∷ 0x8000000080008081 ∷ 0x8000000000008080 ∷ 0x0000000080000001 ∷ 0x8000000080008008 ∷ []
+round_constants =
+    0x0000000000000001 ∷ 0x0000000000008082 ∷ 0x800000000000808a ∷ 0x8000000080008000
+    ∷ 0x000000000000808b ∷ 0x0000000080000001 ∷ 0x8000000080008081 ∷ 0x8000000000008009
+    ∷ 0x000000000000008a ∷ 0x0000000000000088 ∷ 0x0000000080008009 ∷ 0x000000008000000a
+    ∷ 0x000000008000808b ∷ 0x800000000000008b ∷ 0x8000000000008089 ∷ 0x8000000000008003
+    ∷ 0x8000000000008002 ∷ 0x8000000000000080 ∷ 0x000000000000800a ∷ 0x800000008000000a
+    ∷ 0x8000000080008081 ∷ 0x8000000000008080 ∷ 0x0000000080000001 ∷ 0x8000000080008008
+    ∷ []
 
 unfoldable pub iota : ℕ → List ℕ → List ℕ
 iota round s = slice_set s 0 (bit_xor (lane s 0 0) (slice_index round_constants round))

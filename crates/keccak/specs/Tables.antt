@@ -1,9 +1,11 @@
 -- The rules by which FIPS 202 defines the constants of iota and the offsets of rho.
-use Rattle.std.specs.Prelude.{◌≡◌, ℕ, zero, suc, ◌+◌, ◌-◌, ◌*◌, ◌/◌, ◌%◌, ◌^◌, List, map, replicate, sum_by, bit_xor, slice_set}
+use Rattle.std.specs.Prelude.{◌≡◌, ℕ, zero, suc, ◌+◌, ◌-◌, ◌*◌, ◌/◌, ◌%◌, ◌^◌, bit_xor}
+use Rattle.std.specs.Prelude.{List, map, replicate, sum_by, slice_set}
 use Rattle.std.specs.List.{range_with_len}
 use Rattle.keccak.specs.Permutation.{round_constants, rotation_offsets}
 
--- one step of the shift register of algorithm 5, bit i of which has the weight 2 ^ i: multiplied by x modulo x^8 + x^6 + x^5 + x^4 + 1
+-- one step of the shift register of algorithm 5, bit i of which has the weight 2 ^ i: multiplied by x modulo
+-- x^8 + x^6 + x^5 + x^4 + 1
 abbrev pub register_step : ℕ → ℕ
 register_step r = bit_xor (2 * r) (r / 2 ^ 7 * 0b1_0111_0001)
 

@@ -1,7 +1,16 @@
 // The permutation Keccak-f[1600] of FIPS 202. Lane (x, y) of a state is number x + 5 * y.
 ghost use Rattle.std.specs.Prelude.{◌≡◌, ◌<◌, map};
 ghost use Rattle.std.specs.List.{range_with_len};
-ghost use Rattle.keccak.specs.Permutation.{parity, effect, theta as theta_of, rho as rho_of, pi as pi_of, chi as chi_of, iota as iota_of, keccak_f};
+ghost use Rattle.keccak.specs.Permutation.{
+  parity,
+  effect,
+  theta as theta_of,
+  rho as rho_of,
+  pi as pi_of,
+  chi as chi_of,
+  iota as iota_of,
+  keccak_f,
+};
 
 const ROUNDS: usize = 24;
 
@@ -63,6 +72,7 @@ fn theta(lanes: [u64; 25]) -> [u64; 25]
 }
 
 // Rotates each lane by the offset of its place.
+#[tactic(auto, using(crate::proofs::Fills::filled_all), unfolding(crate::specs::Permutation::rho))]
 fn rho(lanes: [u64; 25]) -> [u64; 25]
     ensures { result ≡ rho_of lanes }
 {
@@ -76,6 +86,7 @@ fn rho(lanes: [u64; 25]) -> [u64; 25]
 }
 
 // Moves the lanes to other places.
+#[tactic(auto, using(crate::proofs::Fills::filled_all), unfolding(crate::specs::Permutation::pi))]
 fn pi(lanes: [u64; 25]) -> [u64; 25]
     ensures { result ≡ pi_of lanes }
 {
@@ -103,6 +114,7 @@ fn chi(lanes: [u64; 25]) -> [u64; 25]
 }
 
 // Adds the constant of the round to lane (0, 0).
+#[tactic(auto, unfolding(crate::specs::Permutation::iota))]
 fn iota(mut lanes: [u64; 25], round: usize) -> [u64; 25]
     requires { round < 24 }
     ensures { result ≡ iota_of round lanes }
@@ -111,6 +123,7 @@ fn iota(mut lanes: [u64; 25], round: usize) -> [u64; 25]
     lanes
 }
 
+#[tactic(auto, using(crate::proofs::Rounds::round_steps))]
 pub(crate) fn keccak_f(lanes: &mut [u64; 25])
     ensures { lanes.new ≡ keccak_f lanes.old }
 {

@@ -16,6 +16,7 @@ pub struct Shake128 {
 
 impl Shake128 {
     // The sponge after the whole message, padded as SHAKE128 has it.
+    #[tactic(auto, using(crate::proofs::Absorbing::after_none))]
     pub fn absorb(message: &[u8]) -> Shake128
         ensures { next_state result ≡ absorbed message.now }
     {

@@ -1,5 +1,5 @@
 -- How many bits a number needs.
-use Rattle.std.proofs.Common.{◌≡◌, ℕ, suc, ◌+◌, ◌-◌, ◌*◌, ◌^◌, ◌<◌, ◌≤◌, sym, ap, subst, ⊎_elim, pow-suc, arith, pow_mono}
+use Rattle.std.proofs.Common.{◌≡◌, ℕ, suc, ◌+◌, ◌-◌, ◌*◌, ◌^◌, ◌<◌, ◌≤◌, ⊎_elim, pow-suc, arith, pow_mono}
 use lib.Count.{count_leading_zeros}
 use Rattle.std.proofs.lemmas.Nat.{leading_length}
 use Rattle.std.proofs.lemmas.Int.Digits.{length-digits_of-le, number_lt, number_digits_of, all_below_base_digits_of}
@@ -25,13 +25,7 @@ bits_is m b fits tight =
     (λ enough. omega (arith, bits_le m b fits))
     (cases_lt (bits m) b)
 
-pub leading_bits : (m : ℕ) → m < 2 ^ 32 → 32 - count_leading_zeros 32 m ≡ bits m
-leading_bits m h =
-    let top = leading_length 32 m h in
-    let is : top.0 ≡ bits m = bits_is m top.0 top.2 top.3 in
-    omega (arith, top.1)
-
-pub is_bit_count : (m : ℕ) → IsBitCount m (bits m)
+is_bit_count : (m : ℕ) → IsBitCount m (bits m)
 is_bit_count m = record {
   fits = bits_fit m;
   least = λ some.
@@ -40,3 +34,14 @@ is_bit_count m = record {
       (λ enough. enough)
       (cases_lt m (2 ^ (bits m - 1)));
 }
+
+-- what the code computes
+module _ (m : ℕ) (fits : m < 2 ^ 32) where
+  pub leading_bits : 32 - count_leading_zeros 32 m ≡ bits m
+  leading_bits =
+      let top = leading_length 32 m fits in
+      let is : top.0 ≡ bits m = bits_is m top.0 top.2 top.3 in
+      omega (arith, top.1)
+
+  pub leading_is_bit_count : IsBitCount m (32 - count_leading_zeros 32 m)
+  leading_is_bit_count = rw leading_bits (is_bit_count m)

@@ -1,10 +1,10 @@
 -- The numbers that are kept, one group on and at the end of the list.
-use Rattle.std.proofs.Common.{◌≡◌, ℕ, ◌+◌, ◌-◌, ◌*◌, ◌/◌, ◌%◌, ◌^◌, ◌<◌, ◌≤◌, min, Bool, true, false, cond, ltb, List, [], ◌∷◌, ◌++◌, map, length, take, drop, set, Ok, Err, filter, sym, refl, ap, ◌∙◌, subst, ⊎_elim, arith}
-use Rattle.std.proofs.lemmas.List.{take_more_set, take_all, take_at, append_assoc, append-nil, drop-drop, length-append, length-drop, length-take-le}
+use Rattle.std.proofs.Common.{◌≡◌, ℕ, ◌+◌, ◌-◌, ◌/◌, ◌%◌, ◌^◌, ◌<◌, ◌≤◌, min, cond, ltb, List, [], ◌∷◌, ◌++◌, map, length, take, drop, set, Ok, Err, filter, sym, ap, ◌∙◌, subst, ⊎_elim, arith}
+use Rattle.std.proofs.lemmas.List.{take_more_set, append_assoc, append-nil, drop-drop, length-take-le}
 use Rattle.std.proofs.lemmas.Bool.{cases_lt, cond-true, cond-false, lt-ltb, le-ltb}
 use Rattle.ring.specs.declared.fault.Fault.TheVariants.{SourceSpent}
 use Rattle.keccak.specs.Sponge.{little_endian}
-use Rattle.source.specs.Derivation.{bits, bytes_for, groups, candidates, kept, keep_answer, WholeGroup}
+use Rattle.source.specs.Derivation.{bits, bytes_for, candidates, kept, keep_answer, WholeGroup}
 use Rattle.source.proofs.BitCounts.{bits_fit}
 use Rattle.source.proofs.Groups.{groups_none, groups_more}
 
@@ -72,23 +72,8 @@ module _ (q b c : ℕ) (width : b ≡ bits (q - 1)) (size : c ≡ b / 8 + min 1 
   whole_group xs ys position x end same group =
       subst (λ n. WholeGroup n xs position x end) byte_count (subst (λ (zs : List ℕ). WholeGroup c zs position x end) same group)
 
-  pub group_falls : 1 < q → (xs ys : List ℕ) (position x end : ℕ) → ys ≡ xs → WholeGroup c xs position x end → length ys - end < length xs - position
-  group_falls more xs ys position x end same group =
-      let here : c ≤ length xs - position = rw (← length-drop position xs) group.whole in
-      omega (arith, here, group.moves, ap (λ (zs : List ℕ). length zs) same, bits_some q more, byte_count)
-
--- what is answered, and left in front, once the front is full or the list used up
-module _ (n : ℕ) (front all rest : List ℕ) (m : ℕ) (long : length front ≡ n) where
-  pub spent_answer : m < n → take m front ≡ all → Err (SourceSpent m) ≡ keep_answer n all
-  spent_answer short is =
-      let count : length all ≡ m = ap (λ (xs : List ℕ). length xs) (sym is) ∙ length-take-le m front (omega arith) in
-      rw count (sym (cond-true (ltb m n) (Err (SourceSpent m)) (Ok tt) (lt-ltb m n short)))
-
-  pub full_answer : take n front ++ rest ≡ all → Ok tt ≡ keep_answer n all
-  full_answer is =
-      let enough : n ≤ length all = omega (arith, ap (λ (xs : List ℕ). length xs) is, length-append (take n front) rest, length-take-le n front (omega arith)) in
-      sym (cond-false (ltb (length all) n) (Err (SourceSpent (length all))) (Ok tt) (le-ltb (length all) n enough))
-
-  pub full_front : take n front ++ rest ≡ all → front ≡ take n all
-  full_front is =
-      sym (take_all n front (omega arith)) ∙ sym (take_at (take n front) rest n (length-take-le n front (omega arith))) ∙ ap (take n) is
+-- what is answered where the list is used up
+pub spent_answer : (n : ℕ) (front all : List ℕ) (m : ℕ) → length front ≡ n → m < n → take m front ≡ all → Err (SourceSpent m) ≡ keep_answer n all
+spent_answer n front all m long short is =
+    let count : length all ≡ m = ap (λ (xs : List ℕ). length xs) (sym is) ∙ length-take-le m front (omega arith) in
+    rw count (sym (cond-true (ltb m n) (Err (SourceSpent m)) (Ok tt) (lt-ltb m n short)))

@@ -1,22 +1,20 @@
 -- What holds of every derivation.
-use Rattle.std.proofs.Common.{◌≡◌, ℕ, zero, suc, ◌+◌, ◌-◌, ◌*◌, ◌/◌, ◌%◌, ◌^◌, ◌<◌, ◌≤◌, Bool, true, false, cond, eqb, ltb, List, [], ◌∷◌, ◌++◌, map, length, take, drop, Ok, Err, filter, Result, sym, refl, ap, ◌∙◌, subst, ap₂, ⊎_elim, arith}
+use Rattle.std.proofs.Common.{◌≡◌, ℕ, zero, suc, ◌-◌, ◌/◌, ◌%◌, ◌^◌, ◌<◌, ◌≤◌, true, eqb, ltb, List, ◌∷◌, ◌++◌, map, length, take, drop, Ok, filter, sym, refl, ap, ◌∙◌, subst, ap₂, ⊎_elim, arith}
 use native.Mathlib.Nat.{div-eq_of_lt, div-eq-sub-div}
-use Rattle.std.specs.List.{AllByRecursion as All}
+use Rattle.std.specs.Prelude.{All}
 use Rattle.std.proofs.lemmas.Nat.{le-div}
-use Rattle.std.proofs.lemmas.List.Elements.{filter-append}
-use Rattle.std.proofs.ByRecursion.{All-take, All-weaker, kept_by_passes}
+use Rattle.std.proofs.lemmas.List.Elements.{All-take, All-weaker, filter_passes, filter-append}
 use Rattle.std.proofs.lemmas.List.{length-append, length-drop, length-take, length-take-le, map-append, take-append-le, drop-append-le}
 use Rattle.std.proofs.lemmas.Bool.{cases_lt, cond_both, eqb-true, eqb-false, ltb-true, ltb-false}
-use Rattle.ring.specs.declared.fault.Fault.{Fault}
 use Rattle.keccak.specs.Sponge.{little_endian}
-use Rattle.source.specs.Derivation.{bits, bytes_for, groups, candidates, kept, derived, keep_answer, derive_answer}
-use Rattle.source.specs.Laws.{IsElement, DeriveMeans}
+use Rattle.source.specs.Derivation.{bits, groups, candidates, kept, derived, derive_answer}
+use Rattle.source.specs.Laws.{DeriveMeans}
 use Rattle.source.proofs.Groups.{groups_none, groups_more}
 use Rattle.source.proofs.Keeping.{group_bytes, bits_some}
 
 pub kept_below : (q : ℕ) (bytes : List ℕ) → All (λ x. x < q) (kept q bytes)
 unfolding kept
-kept_below q bytes = All-weaker (λ x. ltb x q ≡ true) (λ x. x < q) (λ x t. ltb-true x q t) (kept q bytes) (kept_by_passes (λ x. ltb x q) (candidates q bytes))
+kept_below q bytes = All-weaker (λ x. ltb x q ≡ true) (λ x. x < q) (λ x t. ltb-true x q t) (kept q bytes) (filter_passes (λ x. ltb x q) (candidates q bytes))
 
 pub derive_means : (n q : ℕ) (bytes : List ℕ) (places : ℕ) → DeriveMeans n q bytes places (derive_answer n q bytes places)
 derive_means n q bytes places =

@@ -1,5 +1,6 @@
 -- The element that a list of bytes gives: in groups of bytes, each a number, those below q are kept.
-use Rattle.std.specs.Prelude.{◌≡◌, ℕ, ◌+◌, ◌-◌, ◌*◌, ◌/◌, ◌%◌, ◌^◌, ◌<◌, ◌≤◌, cond, ltb, List, map, length, take, drop, Some, None, Ok, Err, filter, Option, Result, ◌==◌, nat_lt}
+use Rattle.std.specs.Prelude.{◌≡◌, ℕ, ◌+◌, ◌-◌, ◌*◌, ◌/◌, ◌%◌, ◌^◌, ◌<◌, ◌≤◌, ◌==◌, nat_lt, cond}
+use Rattle.std.specs.Prelude.{List, map, filter, length, take, drop, Option, Some, None, Result, Ok, Err}
 use Rattle.std.specs.List.{range_with_len}
 use Rattle.std.specs.Int.Digits.{digits_of}
 use Rattle.keccak.specs.Sponge.{little_endian}
@@ -28,7 +29,7 @@ unfoldable pub candidates : ℕ → List ℕ → List ℕ
 candidates q bytes = map (λ x. x % 2 ^ bits (q - 1)) (groups (bytes_for (bits (q - 1))) bytes)
 
 unfoldable pub kept : ℕ → List ℕ → List ℕ
-kept q bytes = filter (λ x. ltb x q) (candidates q bytes)
+kept q bytes = filter (λ x. nat_lt x q) (candidates q bytes)
 
 -- the first n that are kept
 abbrev pub derived : ℕ → ℕ → List ℕ → List ℕ

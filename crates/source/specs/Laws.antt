@@ -1,6 +1,5 @@
 -- What holds of every derivation.
-use Rattle.std.specs.Prelude.{◌≡◌, ℕ, ◌-◌, ◌<◌, List, [], ◌∷◌, ◌++◌, length, Ok, Err, Result, ◌≢◌}
-use Rattle.std.specs.List.{AllByRecursion as All}
+use Rattle.std.specs.Prelude.{◌≡◌, ◌≢◌, ℕ, ◌-◌, ◌<◌, List, [], ◌∷◌, ◌++◌, length, All, Ok, Err, Result}
 use Rattle.ring.specs.declared.fault.Fault.{Fault}
 use Rattle.ring.specs.declared.fault.Fault.TheVariants.{WrongLength, OutOfRange, SumTooLarge, CoinOutOfRange, SourceSpent}
 use Rattle.source.specs.Derivation.{bits, bytes_for, kept, derived, derive_answer}
@@ -25,13 +24,16 @@ pub record Groups (q b c : ℕ) : Type 0 where
   pub bytes_are : bytes_for b ≡ c
 
 pub record DerivationLaws : Type 0 where
-  pub means : (n q : ℕ) (bytes : List ℕ) (places : ℕ) → DeriveMeans n q bytes places (derive_answer n q bytes places)
+  pub means : (n q : ℕ) (bytes : List ℕ) (places : ℕ) →
+      DeriveMeans n q bytes places (derive_answer n q bytes places)
   -- bytes after those that suffice change nothing
-  pub stable : (n q : ℕ) (bytes more : List ℕ) (places : ℕ) → 1 < q → derive_answer n q bytes places ≡ Ok tt → derived n q (bytes ++ more) ≡ derived n q bytes
+  pub stable : (n q : ℕ) (bytes more : List ℕ) (places : ℕ) → 1 < q →
+      derive_answer n q bytes places ≡ Ok tt → derived n q (bytes ++ more) ≡ derived n q bytes
 
 -- at the moduli of the number sets T, S and W, and one element that was worked out by hand
 pub record DerivationValues : Type 0 where
   pub groups_t : Groups 257 9 2
   pub groups_s : Groups 12289 14 2
   pub groups_w : Groups 8380417 23 3
-  pub element_t : derived 4 257 (0xff ∷ 0xff ∷ 0x64 ∷ 0x00 ∷ 0xc8 ∷ 0x00 ∷ 0x05 ∷ 0x00 ∷ 0x00 ∷ 0x00 ∷ []) ≡ 100 ∷ 200 ∷ 5 ∷ 0 ∷ []
+  pub element_t :
+      derived 4 257 (0xff ∷ 0xff ∷ 0x64 ∷ 0x00 ∷ 0xc8 ∷ 0x00 ∷ 0x05 ∷ 0x00 ∷ 0x00 ∷ 0x00 ∷ []) ≡ 100 ∷ 200 ∷ 5 ∷ 0 ∷ []

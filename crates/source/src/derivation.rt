@@ -1,5 +1,5 @@
 // The ring element that a seed and a byte source give.
-ghost use Rattle.std.specs.Prelude.{◌≡◌, ◌^◌, ◌<◌, ◌≤◌, length, take, drop, OnOk};
+ghost use Rattle.std.specs.Prelude.{◌≡◌, ◌^◌, ◌<◌, ◌≤◌, length, drop, OnOk};
 ghost use Rattle.ring.specs.Faults.{after};
 ghost use Rattle.source.specs.Derivation.{kept, derived, keep_answer, derive_answer};
 
@@ -13,11 +13,15 @@ use ring::Fault;
 const ROOM: usize = 1024;
 
 // Fills `numbers` with the first ones below q that the list ahead gives, or says how many it gives.
+#[tactic(auto, using(crate::proofs::BitCounts::bits_le))]
 fn keep_numbers<S: ByteSource>(source: &mut S, q: u32, numbers: &mut [u32]) -> Result<(), Fault>
-    requires { (1 < q) × (q < 2 ^ 23) }
-    ensures means { S.ByteSource.meaning source.new ≡ S.ByteSource.meaning source.old }
-    ensures answer { result ≡ keep_answer (length numbers.old) (kept q (drop (S.ByteSource.position source.old) (S.ByteSource.reading source.old))) }
-    ensures first { OnOk result (numbers.new ≡ take (length numbers.old) (kept q (drop (S.ByteSource.position source.old) (S.ByteSource.reading source.old)))) }
+    requires least { 1 < q }
+    requires most { q < 2 ^ 23 }
+    ensures means { S.meaning source.new ≡ S.meaning source.old }
+    ensures answer { let ahead = drop (S.position source.old) (S.reading source.old) in
+        result ≡ keep_answer (length numbers.old) (kept q ahead) }
+    ensures first { let ahead = drop (S.position source.old) (S.reading source.old) in
+        OnOk result (numbers.new ≡ derived (length numbers.old) q ahead) }
 {
     let bits = bit_count(q - 1);
     let bytes = bits.div_ceil(8);
@@ -44,10 +48,14 @@ fn fill_through<S: ByteSource>(
     room: &mut [u32],
     output: &mut [u32],
 ) -> Result<(), Fault>
-    requires { (1 < q) × ((q < 2 ^ 23) × (length output.old ≤ length room.old)) }
-    ensures means { S.ByteSource.meaning source.new ≡ S.ByteSource.meaning source.old }
-    ensures answer { result ≡ keep_answer (length output.old) (kept q (drop (S.ByteSource.position source.old) (S.ByteSource.reading source.old))) }
-    ensures fills { output.new ≡ after result (take (length output.old) (kept q (drop (S.ByteSource.position source.old) (S.ByteSource.reading source.old)))) output.old }
+    requires least { 1 < q }
+    requires most { q < 2 ^ 23 }
+    requires enough { length output.old ≤ length room.old }
+    ensures means { S.meaning source.new ≡ S.meaning source.old }
+    ensures answer { let ahead = drop (S.position source.old) (S.reading source.old) in
+        result ≡ keep_answer (length output.old) (kept q ahead) }
+    ensures fills { let ahead = drop (S.position source.old) (S.reading source.old) in
+        output.new ≡ after result (derived (length output.old) q ahead) output.old }
 {
     let n = output.len();
     let numbers = &mut room[0..n];
@@ -62,9 +70,11 @@ pub fn derive<P: Profile, S: ByteSource>(
     seed: &[u8; 16],
     output: &mut [u32],
 ) -> Result<(), Fault>
-    ensures answer { result ≡ derive_answer P.Profile.numbers.n P.Profile.numbers.q (S.ByteSource.meaning source.old seed.now) (length output.old) }
-    ensures element { output.new ≡ after result (derived P.Profile.numbers.n P.Profile.numbers.q (S.ByteSource.meaning source.old seed.now)) output.old }
-    ensures means { S.ByteSource.meaning source.new ≡ S.ByteSource.meaning source.old }
+    ensures answer { let bytes = S.meaning source.old seed.now in
+        result ≡ derive_answer P.numbers.n P.numbers.q bytes (length output.old) }
+    ensures element { let bytes = S.meaning source.old seed.now in
+        output.new ≡ after result (derived P.numbers.n P.numbers.q bytes) output.old }
+    ensures means { S.meaning source.new ≡ S.meaning source.old }
 {
     let Numbers { n, q, .. } = P::stated();
     if output.len() != n {

@@ -7,9 +7,9 @@ use crate::source::ByteSource;
 // The number that the next bytes write, the lowest first; nothing where there are not so many.
 pub(crate) fn next_number<S: ByteSource>(source: &mut S, bytes: u32) -> Option<u32>
     requires { bytes ≤ 4 }
-    ensures means { S.ByteSource.meaning source.new ≡ S.ByteSource.meaning source.old }
-    ensures reads { S.ByteSource.reading source.new ≡ S.ByteSource.reading source.old }
-    ensures gives { GivesGroup bytes (S.ByteSource.reading source.old) (S.ByteSource.position source.old) result (S.ByteSource.position source.new) }
+    ensures means { S.meaning source.new ≡ S.meaning source.old }
+    ensures reads { S.reading source.new ≡ S.reading source.old }
+    ensures gives { GivesGroup bytes (S.reading source.old) (S.position source.old) result (S.position source.new) }
 {
     let mut number = 0;
     for i in 0..bytes {

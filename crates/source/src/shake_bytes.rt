@@ -16,6 +16,7 @@ const BLOCKS: usize = 24;
 
 impl ShakeSource {
     // Has nothing to give before it begins.
+    #[tactic(auto, using(crate::proofs::Squeezing::nothing_read))]
     pub fn new() -> Self
         ensures means { (seed : List ℕ) → shake_meaning result seed ≡ shake128 seed 4032 }
         ensures unread { shake_reading result ≡ [] }
@@ -25,6 +26,7 @@ impl ShakeSource {
     }
 
     // At the start of so many blocks.
+    #[tactic(auto, using(keccak::proofs::Streams::permuted_none))]
     fn at_start(seed: &[u8; 16], limit: usize) -> Self
         requires { limit ≤ 24 }
         ensures seeded { result.seed ≡ seed.now }
@@ -42,8 +44,10 @@ impl ShakeSource {
     }
 
     // Squeezes one more block.
+    #[tactic(auto, using(keccak::proofs::Streams::permuted_more))]
     fn squeeze_block(&mut self)
-        requires { (self.old.blocks < self.old.limit) × (self.old.offset ≡ 168) }
+        requires more { self.old.blocks < self.old.limit }
+        requires spent { self.old.offset ≡ 168 }
         ensures reads { shake_reading self.new ≡ shake_reading self.old }
         ensures stays { shake_position self.new ≡ shake_position self.old }
         ensures fresh { self.new.offset ≡ 0 }

@@ -12,8 +12,8 @@ pub loop-i-preserved : goal.loop-i-preserved
 loop-i-preserved c = (
   c.squeeze.ensures.state ∙ ap keccak_f c.loop-i.invariant.0 ∙ sym (permuted_more c.loop-i.i (next_state c.absorb-sponge.result)),
   c.squeeze.array_long,
-  written_more (next_state c.absorb-sponge.result) c.loop-i.output c.copy-from-slice.new.self c.loop-i.i c.min-size.result (omega arith) c.min-size.ensures
-      (c.copy-from-slice.ensures.after ∙ ap (take (c.min-size.result - 0)) (c.squeeze.ensures.output ∙ ap output_block c.loop-i.invariant.0))
+  written_more (next_state c.absorb-sponge.result) c.loop-i.output c.copy_from_slice.new.self c.loop-i.i c.min-size.result (omega arith) c.min-size.ensures
+      (c.copy_from_slice.ensures.after ∙ ap (take (c.min-size.result - 0)) (c.squeeze.ensures.output ∙ ap output_block c.loop-i.invariant.0))
       c.loop-i.invariant.2,
 )
 

@@ -1,11 +1,7 @@
-use Rattle.std.proofs.Common.{refl, arith}
+use Rattle.std.proofs.Common.{arith}
 use Rattle.keccak.specs.Permutation.{chi, chi_lane}
-use Rattle.keccak.proofs.Fills.{filled_more, filled_all}
+use Rattle.keccak.proofs.Fills.{filled_all}
 use Rattle.keccak.proofs.permutation.chi.Goals as goal
-
-pub loop-x-preserved : goal.loop-x-preserved
-loop-x-preserved c =
-    filled_more (chi_lane c.args.lanes) c.loop-x.out c.loop-x.x c.loop-y.y _ (omega arith) (omega arith) c.loop-x.invariant refl
 
 pub returns : goal.returns
 unfolding chi

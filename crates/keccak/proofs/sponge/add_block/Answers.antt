@@ -1,9 +1,6 @@
 use Rattle.std.proofs.Common.{arith}
-use Rattle.keccak.proofs.Blocks.{added_more, added_all}
+use Rattle.keccak.proofs.Blocks.{added_all}
 use Rattle.keccak.proofs.sponge.add_block.Goals as goal
-
-pub loop-i-preserved : goal.loop-i-preserved
-loop-i-preserved c = added_more c.args.lanes.now c.args.block.now c.loop-i.lanes c.loop-i.i c.read-lane.result (omega arith) c.loop-i.invariant c.read-lane.ensures
 
 pub returns : goal.returns
 returns c = added_all c.args.lanes.now c.args.block.now c.loop-i.lanes c.loop-i.i (omega arith) c.requires c.loop-i.invariant

@@ -1,10 +1,7 @@
-use Rattle.std.proofs.Common.{◌≡◌, ◌-◌, ◌*◌, ◌%◌, ◌^◌, ap, ◌∙◌, arith}
+use Rattle.std.proofs.Common.{◌≡◌, ◌-◌, ◌*◌, ◌%◌, ◌^◌, ap, ◌∙◌}
 use lib.Bits.{bit_and}
-use Rattle.std.proofs.lemmas.Nat.{one_shl, pow_pos, and_mask}
+use Rattle.std.proofs.lemmas.Nat.{one_shl, and_mask}
 use Rattle.source.proofs.bits.low_bits.Goals as goal
-
-pub overflow-sub-result : goal.overflow-sub-result
-overflow-sub-result c = omega (arith, one_shl c.args.width 32 c.requires, pow_pos c.args.width)
 
 pub returns : goal.returns
 returns c =

@@ -7,10 +7,14 @@ abbrev pub invariant-loop-count : goal.invariant-loop-count
 invariant-loop-count g l =
     let s = g.S.ByteSource in
     let bytes = s.reading l.initial.source in
-    (s.meaning l.source ≡ s.meaning l.initial.source)
-    × (s.reading l.source ≡ bytes)
-    × (take l.count l.numbers ++ kept l.q (drop (s.position l.source) bytes) ≡ kept l.q (drop (s.position l.initial.source) bytes))
-    × (l.count ≤ length l.numbers)
+    record {
+      means : s.meaning l.source ≡ s.meaning l.initial.source;
+      reads : s.reading l.source ≡ bytes;
+      so_far :
+          take l.count l.numbers ++ kept l.q (drop (s.position l.source) bytes)
+          ≡ kept l.q (drop (s.position l.initial.source) bytes);
+      room : l.count ≤ length l.numbers;
+    }
 
 abbrev pub decreases-loop-count : goal.decreases-loop-count
 decreases-loop-count g l = length (g.S.ByteSource.reading l.source) - g.S.ByteSource.position l.source
