@@ -1,5 +1,5 @@
 -- Values that were worked out by hand, at the number set T. One list, to which later layers add theirs.
-use Rattle.std.specs.Prelude.{◌≡◌, ℕ, [], ◌∷◌}
+use Rattle.std.specs.Prelude.{◌≡◌, [], ◌∷◌}
 use Rattle.element.specs.Products.{product}
 use Rattle.profile.specs.Laws.{Functions}
 use Rattle.reconcile.specs.Ding.{ding_numbers, ding_functions}

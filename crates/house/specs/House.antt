@@ -1,5 +1,5 @@
 -- A house profile, from a number set and a reconciler; and the six that there are.
-use Rattle.std.specs.Prelude.{ℕ, ◌*◌}
+use Rattle.std.specs.Prelude.{◌*◌}
 use Rattle.profile.specs.Laws.{Functions, Lawful}
 use Rattle.profile.specs.declared.numbers.Numbers.{Numbers}
 use Rattle.reconcile.specs.Ding.{ding_numbers, ding_functions}

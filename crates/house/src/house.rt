@@ -19,67 +19,63 @@ pub struct House<S, K> {
 }
 
 fn modulus<S: NumberSet>() -> Modulus
-    ensures { result.q ≡ S.NumberSet.sizes.q }
+    ensures { result.q ≡ S.SIZES.q }
 {
-    match Modulus::new(S::stated().q) {
+    match Modulus::new(S::SIZES.q) {
         Some(q) => q,
-        None => unreachable(),
+        None => unreachable!(),
     }
 }
 
 // The largest difference that the reconciler tolerates at the modulus of the number set.
-fn tau<S: NumberSet, K: Reconciler>() -> u32
-    ensures { result ≡ tolerance K.Reconciler.numbers S.NumberSet.sizes.q }
+const fn tau<S: NumberSet, K: Reconciler>() -> u32
+    ensures { result ≡ tolerance K.NUMBERS S.SIZES.q }
 {
-    let formula = K::stated().tolerance;
-    (formula.times * S::stated().q).saturating_sub(formula.less) >> formula.shift
+    let formula = K::NUMBERS.tolerance;
+    (formula.times * S::SIZES.q).saturating_sub(formula.less) >> formula.shift
 }
 
 impl<S: NumberSet, K: Reconciler> Profile for House<S, K> {
     type Secret = S::Secret;
 
-    ghost numbers = { house_numbers S.NumberSet.sizes K.Reconciler.numbers };
+    const NUMBERS: Numbers = Numbers {
+        n: S::SIZES.n,
+        q: S::SIZES.q,
+        p: S::SIZES.p,
+        w: S::SIZES.w,
+        e: S::SIZES.e,
+        l: S::SIZES.l,
+        step: K::NUMBERS.step,
+        r: K::NUMBERS.step * S::SIZES.rounding,
+        tau: tau::<S, K>(),
+        coins: K::NUMBERS.coins,
+        signal_width: K::NUMBERS.signal_width,
+        numbers_byte: S::SIZES.byte,
+        reconciler_byte: K::NUMBERS.byte,
+    };
 
-    ghost functions = { house_functions S.NumberSet.sizes K.Reconciler.numbers K.Reconciler.meaning };
+    ghost NUMBERS = { house_numbers S.SIZES K.NUMBERS };
 
-    ghost lawful = { house_lawful S.NumberSet.sizes K.Reconciler.numbers K.Reconciler.meaning S.NumberSet.admissible K.Reconciler.sound };
+    ghost functions = { house_functions S.SIZES K.NUMBERS K.meaning };
+
+    ghost lawful = { house_lawful S.SIZES K.NUMBERS K.meaning S.admissible K.sound };
 
     ghost secret_bounds = { Prim.search rules };
 
-    fn stated() -> Numbers {
-        let s = S::stated();
-        let k = K::stated();
-        Numbers {
-            n: s.n,
-            q: s.q,
-            p: s.p,
-            w: s.w,
-            e: s.e,
-            l: s.l,
-            step: k.step,
-            r: k.step * s.rounding,
-            tau: tau::<S, K>(),
-            coins: k.coins,
-            signal_width: k.signal_width,
-            numbers_byte: s.byte,
-            reconciler_byte: k.byte,
-        }
-    }
-
     fn round(x: u32) -> Result<u32, Fault> {
-        let s = S::stated();
+        let s = S::SIZES;
         if x >= s.q {
             return Err(Fault::OutOfRange(0));
         }
-        Ok(rounding::round(s.q, s.p, K::stated().step, x))
+        Ok(rounding::round(s.q, s.p, K::NUMBERS.step, x))
     }
 
     fn recover(y: u32) -> Result<u32, Fault> {
-        let s = S::stated();
+        let s = S::SIZES;
         if y > s.p {
             return Err(Fault::OutOfRange(0));
         }
-        Ok(rounding::recover(s.q, s.p, K::stated().step, y))
+        Ok(rounding::recover(s.q, s.p, K::NUMBERS.step, y))
     }
 
     fn reconcile(x: u32, coin: u8) -> Result<(u8, u8), Fault> {

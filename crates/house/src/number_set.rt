@@ -12,17 +12,13 @@ use profile::{Place, SecretPlace};
 pub trait NumberSet {
     const SIZES: Sizes;
 
+    ghost SIZES: { Sizes };
+
     type Secret: SecretPlace;
 
-    ghost sizes: { Sizes };
+    ghost admissible: { Admissible SIZES };
 
-    // The constant, as clauses know it.
-    fn stated() -> Sizes
-        ensures { result ≡ sizes };
-
-    ghost admissible: { Admissible sizes };
-
-    ghost secret_bounds: { Self.Secret.bounds ≡ bounds_of_sizes sizes };
+    ghost secret_bounds: { Self.Secret.bounds ≡ bounds_of_sizes SIZES };
 }
 
 // Small enough to work through by hand.
@@ -42,15 +38,11 @@ impl NumberSet for T {
 
     type Secret = Place<4, 1, 4>;
 
-    ghost sizes = { sizes_t };
+    ghost SIZES = { sizes_t };
 
     ghost admissible = { admissible_t };
 
     ghost secret_bounds = { Prim.search rules };
-
-    fn stated() -> Sizes {
-        Self::SIZES
-    }
 }
 
 // Small numbers.
@@ -70,15 +62,11 @@ impl NumberSet for S {
 
     type Secret = Place<512, 2, 191>;
 
-    ghost sizes = { sizes_s };
+    ghost SIZES = { sizes_s };
 
     ghost admissible = { admissible_s };
 
     ghost secret_bounds = { Prim.search rules };
-
-    fn stated() -> Sizes {
-        Self::SIZES
-    }
 }
 
 // A wide modulus.
@@ -98,13 +86,9 @@ impl NumberSet for W {
 
     type Secret = Place<256, 7, 1792>;
 
-    ghost sizes = { sizes_w };
+    ghost SIZES = { sizes_w };
 
     ghost admissible = { admissible_w };
 
     ghost secret_bounds = { Prim.search rules };
-
-    fn stated() -> Sizes {
-        Self::SIZES
-    }
 }

@@ -15,12 +15,12 @@ pub fn house_profiles() -> [Numbers; 6]
     ensures lawful { HouseProfilesLawful }
 {
     [
-        House::<T, Ding>::stated(),
-        House::<T, Okcn>::stated(),
-        House::<S, Ding>::stated(),
-        House::<S, Okcn>::stated(),
-        House::<W, Ding>::stated(),
-        House::<W, Okcn>::stated(),
+        House::<T, Ding>::NUMBERS,
+        House::<T, Okcn>::NUMBERS,
+        House::<S, Ding>::NUMBERS,
+        House::<S, Okcn>::NUMBERS,
+        House::<W, Ding>::NUMBERS,
+        House::<W, Okcn>::NUMBERS,
     ]
 }
 

@@ -1,5 +1,5 @@
 -- What a secret is, and what a place for one answers and holds.
-use Rattle.std.specs.Prelude.{◌≡◌, ℕ, ◌+◌, ◌<◌, ◌≤◌, Bool, true, false, cond, leb, List, [], ◌∷◌, length, take, replicate, ℤ, pos, Some, None, Ok, Err, sum_by, Option, Result, ◌==◌, ◌≢◌, nat_le, nat_lt, slice_index_or, unsigned_abs}
+use Rattle.std.specs.Prelude.{◌≡◌, ℕ, ◌+◌, ◌<◌, ◌≤◌, cond, leb, List, [], ◌∷◌, length, take, replicate, ℤ, pos, Some, None, Ok, Err, sum_by, Option, Result, ◌==◌, ◌≢◌, nat_le, nat_lt, slice_index_or, unsigned_abs}
 use Rattle.std.specs.Borrow.{Bor}
 use Rattle.std.specs.List.{prefix_len, AllByRecursion as All}
 use Rattle.ring.specs.declared.fault.Fault.{Fault}

@@ -11,10 +11,10 @@ const SEED: usize = 16;
 // What n numbers of `width` bits take, packed one after another.
 fn packed<P: Profile>(width: u32) -> usize
     requires { width ≤ 16 }
-    ensures value { result ≡ packed_length P.Profile.numbers.n width }
+    ensures value { result ≡ packed_length P.NUMBERS.n width }
     ensures bound { result ≤ 2048 }
 {
-    (P::stated().n * width as usize).div_ceil(8)
+    (P::NUMBERS.n * width as usize).div_ceil(8)
 }
 
 // A section has its count of bytes before it, in two bytes.
@@ -27,18 +27,18 @@ fn section(bytes: usize) -> usize
 
 // Head, seed and rounded values.
 pub fn offer_length<P: Profile>() -> usize
-    ensures { result ≡ offer_length P.Profile.numbers }
+    ensures { result ≡ offer_length P.NUMBERS }
 {
-    let values = packed::<P>(P::stated().w);
+    let values = packed::<P>(P::NUMBERS.w);
     section(HEAD) + section(SEED) + section(values)
 }
 
 // Head, rounded values and signals.
 pub fn answer_length<P: Profile>() -> usize
-    ensures { result ≡ answer_length P.Profile.numbers }
+    ensures { result ≡ answer_length P.NUMBERS }
 {
-    let values = packed::<P>(P::stated().w);
-    let signals = packed::<P>(P::stated().signal_width);
+    let values = packed::<P>(P::NUMBERS.w);
+    let signals = packed::<P>(P::NUMBERS.signal_width);
     section(HEAD) + section(values) + section(signals)
 }
 
@@ -51,7 +51,7 @@ pub fn confirmation_length() -> usize
 
 // One bit for each coefficient.
 pub fn key_length<P: Profile>() -> usize
-    ensures { result ≡ key_length P.Profile.numbers }
+    ensures { result ≡ key_length P.NUMBERS }
 {
     packed::<P>(1)
 }

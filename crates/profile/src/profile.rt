@@ -14,31 +14,30 @@ pub trait Profile {
     // Where a secret of this profile is held.
     type Secret: SecretPlace;
 
-    ghost numbers: { Numbers };
+    // The numbers that the profile states, and the same as clauses know them.
+    const NUMBERS: Numbers;
+
+    ghost NUMBERS: { Numbers };
 
     ghost functions: { Functions };
 
-    // The numbers that the profile states.
-    fn stated() -> Numbers
-        ensures { result ≡ numbers };
-
     // The rounded value of a residue.
     fn round(x: u32) -> Result<u32, Fault>
-        ensures { result ≡ round_answer numbers functions x };
+        ensures { result ≡ round_answer NUMBERS functions x };
 
     // The integer that a rounded value stands for, before it is reduced modulo q.
     fn recover(y: u32) -> Result<u32, Fault>
-        ensures { result ≡ recover_answer numbers functions y };
+        ensures { result ≡ recover_answer NUMBERS functions y };
 
     // The signal and the key bit of a residue and a coin.
     fn reconcile(x: u32, coin: u8) -> Result<(u8, u8), Fault>
-        ensures { result ≡ reconcile_answer numbers functions x coin };
+        ensures { result ≡ reconcile_answer NUMBERS functions x coin };
 
     // The key bit that a residue and the other end's signal give.
     fn read(y: u32, signal: u8) -> Result<u8, Fault>
-        ensures { result ≡ read_answer numbers functions y signal };
+        ensures { result ≡ read_answer NUMBERS functions y signal };
 
-    ghost lawful: { Lawful numbers functions };
+    ghost lawful: { Lawful NUMBERS functions };
 
-    ghost secret_bounds: { Self.Secret.SecretPlace.bounds ≡ bounds_of numbers };
+    ghost secret_bounds: { Self.Secret.bounds ≡ bounds_of NUMBERS };
 }

@@ -1,6 +1,6 @@
 -- The reconciler OKCN with two key values and four bands: z = 2x + coin lies in the lower or the upper half of 0 .. 2q - 1,
 -- which is the key bit, and in one of four bands of that half, which is the signal.
-use Rattle.std.specs.Prelude.{ℕ, ◌+◌, ◌*◌, ◌/◌, ◌%◌, ℤ, pos, ◌+ℤ◌, ◌-ℤ◌, ◌*ℤ◌, nat_abs}
+use Rattle.std.specs.Prelude.{ℕ, ◌+◌, ◌*◌, ◌/◌, ◌%◌, pos, ◌+ℤ◌, ◌-ℤ◌, ◌*ℤ◌}
 use Rattle.std.specs.Int.{int_div_euclid}
 use Rattle.ring.specs.Residues.{residue}
 use Rattle.reconcile.specs.Reconcilers.{Reconciliation}

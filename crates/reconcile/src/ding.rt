@@ -20,15 +20,11 @@ impl Reconciler for Ding {
         },
     };
 
-    ghost numbers = { ding_numbers };
+    ghost NUMBERS = { ding_numbers };
 
     ghost meaning = { ding_functions };
 
     ghost sound = { ding_sound };
-
-    fn stated() -> ReconcilerNumbers {
-        Self::NUMBERS
-    }
 
     fn reconcile(q: Modulus, x: u32, coin: u8) -> Result<(u8, u8), Fault> {
         let s = q.signed(x)?;

@@ -35,15 +35,11 @@ impl Reconciler for Okcn {
         },
     };
 
-    ghost numbers = { okcn_numbers };
+    ghost NUMBERS = { okcn_numbers };
 
     ghost meaning = { okcn_functions };
 
     ghost sound = { okcn_sound };
-
-    fn stated() -> ReconcilerNumbers {
-        Self::NUMBERS
-    }
 
     fn reconcile(q: Modulus, x: u32, coin: u8) -> Result<(u8, u8), Fault> {
         let q = q.value();

@@ -26,21 +26,17 @@ pub struct ReconcilerNumbers {
 pub trait Reconciler {
     const NUMBERS: ReconcilerNumbers;
 
-    ghost numbers: { ReconcilerNumbers };
+    ghost NUMBERS: { ReconcilerNumbers };
 
     ghost meaning: { Reconciliation };
 
-    // The constant, as clauses know it.
-    fn stated() -> ReconcilerNumbers
-        ensures { result ≡ numbers };
-
     // The signal and the key bit of a residue and a coin.
     fn reconcile(q: Modulus, x: u32, coin: u8) -> Result<(u8, u8), Fault>
-        ensures { result ≡ reconciled q.q numbers.coins (meaning.signal q.q) (meaning.key_bit q.q) x coin };
+        ensures { result ≡ reconciled q.q NUMBERS.coins (meaning.signal q.q) (meaning.key_bit q.q) x coin };
 
     // The key bit that a residue and the other end's signal give.
     fn read(q: Modulus, y: u32, signal: u8) -> Result<u8, Fault>
-        ensures { result ≡ key_bit_read q.q numbers.signal_width (meaning.read q.q) y signal };
+        ensures { result ≡ key_bit_read q.q NUMBERS.signal_width (meaning.read q.q) y signal };
 
-    ghost sound: { Sound numbers meaning };
+    ghost sound: { Sound NUMBERS meaning };
 }

@@ -80,7 +80,7 @@ fn print_survey<P: Profile>(rt: &impl Print) -> Result<(), Failure> {
 
 fn print_profile<P: Profile>(rt: &impl Print, name: &str) -> Result<(), Failure> {
     println!(rt; "{name}")?;
-    print_numbers(rt, &P::stated())?;
+    print_numbers(rt, &P::NUMBERS)?;
     print_lengths::<P>(rt)?;
     print_survey::<P>(rt)?;
     println!(rt; "")?;

@@ -71,12 +71,12 @@ pub fn derive<P: Profile, S: ByteSource>(
     output: &mut [u32],
 ) -> Result<(), Fault>
     ensures answer { let bytes = S.meaning source.old seed.now in
-        result ≡ derive_answer P.numbers.n P.numbers.q bytes (length output.old) }
+        result ≡ derive_answer P.NUMBERS.n P.NUMBERS.q bytes (length output.old) }
     ensures element { let bytes = S.meaning source.old seed.now in
-        output.new ≡ after result (derived P.numbers.n P.numbers.q bytes) output.old }
+        output.new ≡ after result (derived P.NUMBERS.n P.NUMBERS.q bytes) output.old }
     ensures means { S.meaning source.new ≡ S.meaning source.old }
 {
-    let Numbers { n, q, .. } = P::stated();
+    let Numbers { n, q, .. } = P::NUMBERS;
     if output.len() != n {
         return Err(Fault::WrongLength(4));
     }

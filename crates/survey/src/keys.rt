@@ -13,23 +13,23 @@ pub struct KeyCounts {
 
 // The largest coin.
 pub fn last_coin<P: Profile>() -> u8
-    ensures { result ≡ P.Profile.numbers.coins - 1 }
+    ensures { result ≡ P.NUMBERS.coins - 1 }
 {
-    (P::stated().coins - 1) as u8
+    (P::NUMBERS.coins - 1) as u8
 }
 
 // The largest signal.
 pub fn last_signal<P: Profile>() -> u8
-    ensures { result ≡ 2 ^ P.Profile.numbers.signal_width - 1 }
+    ensures { result ≡ 2 ^ P.NUMBERS.signal_width - 1 }
 {
-    ((1u32 << P::stated().signal_width) - 1) as u8
+    ((1u32 << P::NUMBERS.signal_width) - 1) as u8
 }
 
 // How many residues a coin gives this signal with key bit 0, and how many with key bit 1.
 pub fn count_keys<P: Profile>(coin: u8, signal: u8) -> Result<KeyCounts, Fault>
-    ensures { result ≡ keys_answer P.Profile.numbers P.Profile.functions coin signal }
+    ensures { result ≡ keys_answer P.NUMBERS P.functions coin signal }
 {
-    let k = P::stated();
+    let k = P::NUMBERS;
     if u32::from(signal) >= 1 << k.signal_width {
         return Err(Fault::OutOfRange(0));
     }

@@ -22,10 +22,10 @@ struct Rounded {
 
 // How far the residue x is moved, and whether the next value is as near.
 fn round_one<P: Profile>(x: u32) -> Result<Rounded, Fault>
-    requires { x < P.Profile.numbers.q }
-    ensures { result ≡ Ok (record { distance = distance P.Profile.functions x; tie = tie P.Profile.numbers P.Profile.functions x }) }
+    requires { x < P.NUMBERS.q }
+    ensures { result ≡ Ok (record { distance = distance P.functions x; tie = tie P.NUMBERS P.functions x }) }
 {
-    let k = P::stated();
+    let k = P::NUMBERS;
     let y = P::round(x)?;
     let t = P::recover(y)?;
     let tie = y + k.step <= k.p && t + P::recover(y + k.step)? == 2 * x;
@@ -49,7 +49,7 @@ fn widen(survey: RoundingSurvey, one: Rounded) -> RoundingSurvey
 
 // Rounds and recovers every residue.
 pub fn survey_rounding<P: Profile>() -> Result<RoundingSurvey, Fault>
-    ensures { rounding_answer P.Profile.numbers P.Profile.functions result }
+    ensures { rounding_answer P.NUMBERS P.functions result }
 {
     let Rounded { distance, tie } = round_one::<P>(0)?;
     let mut survey = RoundingSurvey {
@@ -57,7 +57,7 @@ pub fn survey_rounding<P: Profile>() -> Result<RoundingSurvey, Fault>
         largest: distance,
         ties: u32::from(tie),
     };
-    for x in 1..P::stated().q {
+    for x in 1..P::NUMBERS.q {
         survey = widen(survey, round_one::<P>(x)?);
     }
     Ok(survey)

@@ -1,6 +1,6 @@
 -- A number set and a reconciler make a lawful profile.
 use Rattle.std.proofs.Common.{⊎_elim, sym, ap, ◌∙◌, mul-add, mul_left_comm, mul-le-mul_left, arith, pow_mono}
-use Rattle.std.specs.Prelude.{◌≡◌, ℕ, ◌+◌, ◌-◌, ◌*◌, ◌/◌, ◌%◌, ◌^◌, ◌<◌, ◌≤◌}
+use Rattle.std.specs.Prelude.{◌≡◌, ◌+◌, ◌-◌, ◌*◌, ◌/◌, ◌^◌, ◌<◌, ◌≤◌}
 use Rattle.std.proofs.lemmas.Nat.{pow_pos}
 use Rattle.profile.specs.Laws.{InRange, Lawful}
 use Rattle.house.specs.LawProofs.Roundings.{recover_range, round_is, round_near}

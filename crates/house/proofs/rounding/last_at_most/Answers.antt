@@ -1,5 +1,5 @@
 use Rattle.std.proofs.Common.{arith}
-use Rattle.house.specs.LawProofs.Floors.{product_below, part_within, short_within, last_at_most, last_next_above}
+use Rattle.house.specs.LawProofs.Floors.{product_below, short_within, last_at_most, last_next_above}
 use Rattle.house.proofs.rounding.last_at_most.Goals as goal
 
 pub overflow_mul-short : goal.overflow_mul-short

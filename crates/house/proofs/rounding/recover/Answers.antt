@@ -1,6 +1,5 @@
-use Rattle.std.proofs.Common.{◌+◌, ◌*◌, ◌/◌, ◌%◌, ◌≤◌, sym, ap, ◌∙◌, mul-le-mul_right, arith}
-use native.Mathlib.Nat.{mul-div-le}
-use Rattle.house.specs.LawProofs.Floors.{floor_most, floor_parts}
+use Rattle.std.proofs.Common.{◌+◌, ◌%◌, sym, ap, ◌∙◌}
+use Rattle.house.specs.LawProofs.Floors.{floor_parts}
 use Rattle.house.specs.LawProofs.Roundings.{recover_form}
 use Rattle.house.proofs.rounding.recover.Goals as goal
 

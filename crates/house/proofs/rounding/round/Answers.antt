@@ -1,5 +1,5 @@
 use Rattle.std.proofs.Common.{arith}
-use Rattle.house.specs.LawProofs.Roundings.{last_most, low_under, over_high, round_first, round_down, round_up}
+use Rattle.house.proofs.RoundingSearch.{low_under, round_first, round_down, round_up}
 use Rattle.house.proofs.rounding.round.Goals as goal
 
 pub returns-then-last-over : goal.returns-then-last-over

@@ -1,4 +1,4 @@
-use Rattle.house.specs.LawProofs.Roundings.{tied_midway, midway_tied}
+use Rattle.house.proofs.Ties.{tied_midway, midway_tied}
 use Rattle.house.proofs.theorems.tie_is_midway.Goals as goal
 
 pub returns : goal.returns

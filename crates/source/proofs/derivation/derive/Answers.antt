@@ -6,10 +6,10 @@ use Rattle.source.proofs.derivation.derive.Goals as goal
 
 pub fill_through-requires : goal.fill_through-requires
 fill_through-requires g c =
-    let k = g.P.Profile.numbers in
+    let k = g.P.Profile.NUMBERS in
     let law = g.met.P.Profile.lawful in
-    let n = ap (λ (s : Numbers). s.n) c.stated-n.ensures in
-    rw c.stated-n.ensures (record {
+    let n = ap (λ (s : Numbers). s.n) c.NUMBERS-n.ensures in
+    rw c.NUMBERS-n.ensures (record {
       least = q_least k g.P.Profile.functions law;
       most = law.in_range.q_below;
       enough = omega (arith, n, n_most k law.in_range);

@@ -1,4 +1,4 @@
-use Rattle.std.proofs.Common.{◌≡◌, ℕ, ◌+◌, Ok, Result, ap, subst, arith}
+use Rattle.std.proofs.Common.{◌≡◌, ◌+◌, Ok, Result, ap, subst, arith}
 use Rattle.ring.specs.declared.fault.Fault.{Fault}
 use Rattle.profile.specs.declared.numbers.Numbers.{Numbers}
 use Rattle.survey.proofs.Measures.{count_within, surveyed_more}
@@ -9,8 +9,8 @@ use Rattle.survey.proofs.rounding.survey_rounding.Goals as goal
 
 pub widen-survey-requires : goal.widen-survey-requires
 widen-survey-requires g c =
-    let q = ap (λ (s : Numbers). s.q) c.stated-x-end.ensures in
-    let within = count_within (tie g.P.Profile.numbers g.P.Profile.functions) c.loop-x.x in
+    let q = ap (λ (s : Numbers). s.q) c.NUMBERS-x-end.ensures in
+    let within = count_within (tie g.P.Profile.NUMBERS g.P.Profile.functions) c.loop-x.x in
     omega (arith, c.loop-x.invariant.ties, c.loop-x-test.true, g.met.P.Profile.lawful.in_range.q_below)
 
 -- one and this are what the same call returned
@@ -19,7 +19,7 @@ widened_by s next r one this p q e = cc
 
 pub loop-x-preserved : goal.loop-x-preserved
 loop-x-preserved g c =
-    let k = g.P.Profile.numbers in
+    let k = g.P.Profile.NUMBERS in
     let f = g.P.Profile.functions in
     let x = c.loop-x.x in
     let s = c.loop-x.survey in

@@ -1,0 +1,2 @@
+pub mod RoundingSearch
+pub mod Ties
