@@ -1,5 +1,5 @@
 -- The product of ring elements: lists of n residues modulo q, coefficient 0 first, multiplied modulo x^n + 1 and q.
-use Rattle.std.specs.Prelude.{ℕ, zero, suc, ◌+◌, ◌-◌, cond, List, map, ℤ, pos, ◌+ℤ◌, ◌*ℤ◌, neg_ℤ, nat_le, slice_index_or}
+use Rattle.std.specs.Prelude.{ℕ, zero, suc, ◌+◌, ◌-◌, List, map, ℤ, pos, ◌+ℤ◌, ◌*ℤ◌, neg_ℤ, nat_le, slice_index_or, if◌then◌else◌}
 use Rattle.std.specs.List.{range_with_len}
 use Rattle.ring.specs.Residues.{residue}
 
@@ -14,7 +14,7 @@ at u i = slice_index_or u i (pos 0)
 
 -- the coefficient k of x^i v modulo x^n + 1: v_j where i + j = k, and -v_j where i + j = k + n
 abbrev pub shifted : ℕ → (ℕ → ℤ) → ℕ → ℕ → ℤ
-shifted n v k i = cond (nat_le i k) (v (k - i)) (neg_ℤ (v (k + n - i)))
+shifted n v k i = if nat_le i k then v (k - i) else neg_ℤ (v (k + n - i))
 
 -- the coefficient k of u v modulo x^n + 1: u_i v_j, plus where i + j = k and minus where i + j = k + n, added up over i
 unfoldable pub coefficient : ℕ → (ℕ → ℤ) → (ℕ → ℤ) → ℕ → ℤ

@@ -1,10 +1,10 @@
 -- House rounding: a residue below q is rounded to a value in 0 .. p of its own class modulo step.
-use Rattle.std.specs.Prelude.{◌≡◌, ℕ, zero, suc, ◌+◌, ◌-◌, ◌*◌, ◌/◌, ◌%◌, ◌<◌, ◌≤◌, Bool, cond, ◌⊎◌, ◌==◌, ◌≢◌, nat_lt}
+use Rattle.std.specs.Prelude.{◌≡◌, ℕ, zero, suc, ◌+◌, ◌-◌, ◌*◌, ◌/◌, ◌%◌, ◌<◌, ◌≤◌, Bool, ◌⊎◌, ◌==◌, ◌≢◌, nat_lt, if◌then◌else◌}
 
 -- the first of so many numbers, from `from` on, that passes
 abbrev pub least_from : ℕ → ℕ → (ℕ → Bool) → ℕ
 least_from from zero passes = from
-least_from from (suc many) passes = cond (passes from) from (least_from (suc from) many passes)
+least_from from (suc many) passes = if passes from then from else least_from (suc from) many passes
 
 -- a and b differ by a multiple of step
 abbrev pub same_class : ℕ → ℕ → ℕ → Bool
@@ -15,7 +15,7 @@ distance a b = (a - b) + (b - a)
 
 -- of two places the one of less cost, and the first at a tie
 abbrev pub cheaper : (ℕ → ℕ) → ℕ → ℕ → ℕ
-cheaper cost i j = cond (nat_lt (cost j) (cost i)) j i
+cheaper cost i j = if nat_lt (cost j) (cost i) then j else i
 
 -- the first place of the least among cost 0, .., cost last
 abbrev pub argmin : (ℕ → ℕ) → ℕ → ℕ

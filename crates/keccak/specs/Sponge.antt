@@ -1,6 +1,6 @@
 -- SHAKE128 of FIPS 202 for strings of bytes: the sponge of section 4 over Keccak-f[1600] at the rate of 168 bytes, with
 -- the suffix 1111 and the padding pad10*1 in the bytes of appendix B.2.
-use Rattle.std.specs.Prelude.{ℕ, zero, suc, ◌+◌, ◌-◌, ◌*◌, ◌/◌, ◌%◌, ◌^◌, ◌==◌, cond, bit_xor}
+use Rattle.std.specs.Prelude.{ℕ, zero, suc, ◌+◌, ◌-◌, ◌*◌, ◌/◌, ◌%◌, ◌^◌, ◌==◌, bit_xor, if◌then◌else◌}
 use Rattle.std.specs.Prelude.{List, [], ◌∷◌, ◌++◌, map, length, take, drop, replicate, fold, slice_index}
 use Rattle.std.specs.List.{range_with_len}
 use Rattle.keccak.specs.Permutation.{keccak_f}
@@ -11,7 +11,7 @@ rate = 168
 
 -- what is added to a message that lacks this many bytes of a whole block, from 1 to 168
 abbrev pub padding : ℕ → List ℕ
-padding lacking = cond (lacking == 1) (0x9f ∷ []) (0x1f ∷ replicate (lacking - 2) 0 ++ 0x80 ∷ [])
+padding lacking = if lacking == 1 then 0x9f ∷ [] else 0x1f ∷ replicate (lacking - 2) 0 ++ 0x80 ∷ []
 
 abbrev pub padded : List ℕ → List ℕ
 padded m = m ++ padding (rate - length m % rate)

@@ -1,6 +1,6 @@
 -- What each answer of a multiplication says of the lists and buffers.
-use Rattle.std.proofs.Common.{◌≡◌, ℕ, ◌<◌, ◌≤◌, eqb, ltb, List, length, Ok, sym, refl, subst, inl, inr, arith}
-use Rattle.std.proofs.lemmas.Bool.{cond_both, eqb-true, eqb-false, ltb-true, ltb-false}
+use Rattle.std.proofs.Common.{◌≡◌, ℕ, ◌<◌, ◌≤◌, eqb, ltb, leb, List, length, Ok, sym, refl, subst, inl, inr, arith}
+use Rattle.std.proofs.lemmas.Bool.{cond_both, eqb-true, eqb-false, leb-true, leb-false, ltb-true, ltb-false}
 use Rattle.ring.proofs.Fronts.{front_passes, front_ends}
 use Rattle.multiplier.specs.Multipliers.{AllBelow, Fitting, FirstNotBelow, MultiplyMeans, prefix_below, multiply_answer}
 
@@ -23,27 +23,27 @@ multiply_means n q need left right scratch output =
     cond_both (eqb (length right) n) _ _ Means
     (λ right_is.
     let right_long : length right ≡ n = eqb-true _ _ right_is in
-    cond_both (ltb scratch need) _ _ Means
-    (λ short. inr (left_long, inr (right_long, inl (refl, ltb-true _ _ short))))
+    cond_both (leb need scratch) _ _ Means
     (λ enough.
-    let scratch_long : need ≤ scratch = ltb-false _ _ enough in
+    let scratch_long : need ≤ scratch = leb-true _ _ enough in
     cond_both (eqb output n) _ _ Means
     (λ output_is.
-    cond_both (ltb (prefix_below q left) n) _ _ Means
-    (λ stops. inl (first_not_below q left (omega (arith, ltb-true _ _ stops))))
+    cond_both (leb n (prefix_below q left)) _ _ Means
     (λ reaches.
-    let left_below = all_below q left (omega (arith, ltb-false _ _ reaches)) in
-    cond_both (ltb (prefix_below q right) n) _ _ Means
-    (λ stops. inr (left_below, (prefix_below q right, refl, first_not_below q right (omega (arith, ltb-true _ _ stops)))))
+    let left_below = all_below q left (omega (arith, leb-true _ _ reaches)) in
+    cond_both (leb n (prefix_below q right)) _ _ Means
     (λ far. record {
       left_long = left_long;
       right_long = right_long;
       scratch_long = scratch_long;
       output_long = eqb-true _ _ output_is;
       left_below = left_below;
-      right_below = all_below q right (omega (arith, ltb-false _ _ far));
-    })))
-    (λ other. inr (left_long, inr (right_long, inr (scratch_long, refl, eqb-false _ _ other))))))
+      right_below = all_below q right (omega (arith, leb-true _ _ far));
+    })
+    (λ stops. inr (left_below, (prefix_below q right, refl, first_not_below q right (omega (arith, leb-false _ _ stops))))))
+    (λ stops. inl (first_not_below q left (omega (arith, leb-false _ _ stops)))))
+    (λ other. inr (left_long, inr (right_long, inr (scratch_long, refl, eqb-false _ _ other)))))
+    (λ short. inr (left_long, inr (right_long, inl (refl, leb-false _ _ short)))))
     (λ other. inr (left_long, inl (refl, eqb-false _ _ other))))
     (λ other. inl (refl, eqb-false _ _ other))
 

@@ -1,6 +1,7 @@
 -- What a multiplier is, what it answers, and what its buffers then hold.
-use Rattle.std.specs.Prelude.{◌≡◌, ℕ, ◌+◌, ◌^◌, ◌<◌, ◌≤◌, cond, ◌⊎◌, List, length, Some, None, Ok, Err, Option, Result, ◌==◌, ◌≢◌, nat_lt, slice_index}
+use Rattle.std.specs.Prelude.{◌≡◌, ℕ, ◌+◌, ◌^◌, ◌<◌, ◌≤◌, ◌⊎◌, List, length, Some, None, Ok, Err, Option, Result, ◌==◌, ◌≢◌, nat_lt, slice_index, nat_le}
 use Rattle.std.specs.List.{prefix_len}
+use Rattle.ring.specs.Faults.{checked}
 use Rattle.ring.specs.Residues.{IsModulus}
 use Rattle.ring.specs.declared.fault.Fault.{Fault}
 use Rattle.ring.specs.declared.fault.Fault.TheVariants.{WrongLength, OutOfRange, SumTooLarge, CoinOutOfRange, SourceSpent}
@@ -31,19 +32,13 @@ AllBelow q xs = (k : ℕ) → k < length xs → slice_index xs k < q
 -- what is answered to two lists, and to scratch and an output of so many words
 abbrev pub multiply_answer : (n q need : ℕ) (left right : List ℕ) (scratch output : ℕ) → Result (Unit {0}) Fault
 multiply_answer n q need left right scratch output =
-    cond (length left == n)
-    (cond (length right == n)
-    (cond (nat_lt scratch need)
-    (Err (WrongLength 3))
-    (cond (output == n)
-    (cond (nat_lt (prefix_below q left) n)
-    (Err (OutOfRange (prefix_below q left)))
-    (cond (nat_lt (prefix_below q right) n)
-    (Err (OutOfRange (n + prefix_below q right)))
-    (Ok tt)))
-    (Err (WrongLength 4))))
-    (Err (WrongLength 2)))
-    (Err (WrongLength 1))
+    checked (length left == n) (WrongLength 1)
+    (checked (length right == n) (WrongLength 2)
+    (checked (nat_le need scratch) (WrongLength 3)
+    (checked (output == n) (WrongLength 4)
+    (checked (nat_le n (prefix_below q left)) (OutOfRange (prefix_below q left))
+    (checked (nat_le n (prefix_below q right)) (OutOfRange (n + prefix_below q right))
+    (Ok tt))))))
 
 -- the lists and buffers fit, and every number is below q
 pub record Fitting (n q need : ℕ) (left right : List ℕ) (scratch output : ℕ) : Type 0 where

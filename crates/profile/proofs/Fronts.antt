@@ -91,15 +91,15 @@ fill_means b xs =
     cond_both (eqb (length xs) b.n) _ _ (FillMeans b xs)
     (λ same.
     let long : length xs ≡ b.n = eqb-true _ _ same in
-    cond_both (ltb (front_within b.e xs) b.n) _ _ (FillMeans b xs)
-    (λ beyond. (long, within_first b.e xs (omega (arith, ltb-true _ _ beyond))))
+    cond_both (leb b.n (front_within b.e xs)) _ _ (FillMeans b xs)
     (λ inside.
-    let within = all_within b.e xs (omega (arith, ltb-false _ _ inside)) in
-    cond_both (ltb (front_summing 0 b.l xs) b.n) _ _ (FillMeans b xs)
-    (λ past. (long, within, summing_first b.l xs (omega (arith, ltb-true _ _ past))))
-    (λ light. record {
+    let within = all_within b.e xs (omega (arith, leb-true _ _ inside)) in
+    cond_both (leb b.n (front_summing 0 b.l xs)) _ _ (FillMeans b xs)
+    (λ fits. record {
       long = long;
       small = within;
-      light = omega (arith, sum_within 0 b.l xs (omega arith) (omega (arith, ltb-false _ _ light)));
-    })))
+      light = omega (arith, sum_within 0 b.l xs (omega arith) (omega (arith, leb-true _ _ fits)));
+    })
+    (λ past. (long, within, summing_first b.l xs (omega (arith, leb-false _ _ past)))))
+    (λ beyond. (long, within_first b.e xs (omega (arith, leb-false _ _ beyond)))))
     (λ other. (eqb-false _ _ other, refl))

@@ -1,7 +1,8 @@
 -- What a secret is, and what a place for one answers and holds.
-use Rattle.std.specs.Prelude.{◌≡◌, ℕ, ◌+◌, ◌<◌, ◌≤◌, cond, leb, List, [], ◌∷◌, length, take, replicate, ℤ, pos, Some, None, Ok, Err, sum_by, Option, Result, ◌==◌, ◌≢◌, nat_le, nat_lt, slice_index_or, unsigned_abs}
+use Rattle.std.specs.Prelude.{◌≡◌, ℕ, ◌+◌, ◌<◌, ◌≤◌, leb, List, [], ◌∷◌, length, take, replicate, ℤ, pos, Some, None, Ok, Err, sum_by, Option, Result, ◌==◌, ◌≢◌, nat_le, slice_index_or, unsigned_abs, if◌then◌else◌}
 use Rattle.std.specs.Borrow.{Bor}
 use Rattle.std.specs.List.{prefix_len, AllByRecursion as All}
+use Rattle.ring.specs.Faults.{checked}
 use Rattle.ring.specs.declared.fault.Fault.{Fault}
 use Rattle.ring.specs.declared.fault.Fault.TheVariants.{WrongLength, OutOfRange, SumTooLarge, CoinOutOfRange, SourceSpent}
 use Rattle.profile.specs.declared.numbers.Numbers.{Numbers}
@@ -27,18 +28,16 @@ front_within e xs = prefix_len (λ x. leb (unsigned_abs x) e) xs
 -- how many come before the one at which the sum, running on from `sum`, first passes l
 abbrev pub front_summing : ℕ → ℕ → List ℤ → ℕ
 front_summing sum l [] = 0
-front_summing sum l (x ∷ xs) = cond (nat_le (sum + unsigned_abs x) l) (1 + front_summing (sum + unsigned_abs x) l xs) 0
+front_summing sum l (x ∷ xs) =
+    if nat_le (sum + unsigned_abs x) l then 1 + front_summing (sum + unsigned_abs x) l xs else 0
 
 -- what a place answers when xs is handed in
 abbrev pub fill_answer : Bounds → List ℤ → Result (Unit {0}) Fault
 fill_answer b xs =
-    cond (length xs == b.n)
-    (cond (nat_lt (front_within b.e xs) b.n)
-    (Err (OutOfRange (front_within b.e xs)))
-    (cond (nat_lt (front_summing 0 b.l xs) b.n)
-    (Err (SumTooLarge (front_summing 0 b.l xs)))
+    checked (length xs == b.n) (WrongLength 1)
+    (checked (nat_le b.n (front_within b.e xs)) (OutOfRange (front_within b.e xs))
+    (checked (nat_le b.n (front_summing 0 b.l xs)) (SumTooLarge (front_summing 0 b.l xs))
     (Ok tt)))
-    (Err (WrongLength 1))
 
 -- i is the index of the first coefficient of a size above e
 pub record FirstBeyond (e : ℕ) (xs : List ℤ) (i : ℕ) : Type 0 where

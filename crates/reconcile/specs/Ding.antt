@@ -1,16 +1,17 @@
 -- The reconciler of the Ding key exchange: a signal bit says whether a residue lies in the inner half of the circle, and the
 -- key bit is a parity. One of two coins moves the inner region by one.
-use Rattle.std.specs.Prelude.{ℕ, ◌+◌, ◌-◌, ◌*◌, ◌/◌, ◌%◌, Bool, false, cond, ℤ, pos, ◌+ℤ◌, neg_ℤ, int_le, unsigned_abs}
+use Rattle.std.specs.Prelude.{ℕ, ◌+◌, ◌-◌, ◌*◌, ◌/◌, ◌%◌, Bool, ℤ, pos, ◌+ℤ◌, neg_ℤ, int_le, unsigned_abs, if◌then◌else◌, ◌&&◌}
 use Rattle.ring.specs.Residues.{signed}
 use Rattle.reconcile.specs.Reconcilers.{Reconciliation}
 use Rattle.reconcile.specs.declared.reconciler.ReconcilerNumbers.{ReconcilerNumbers}
 
 abbrev pub within : ℤ → ℤ → ℤ → Bool
-within low high s = cond (int_le low s) (int_le s high) false
+within low high s = int_le low s && int_le s high
 
 -- the inner region is -r .. r for coin 0 and -r+1 .. r+1 for coin 1, where r = floor(q / 4)
 abbrev pub ding_signal : ℕ → ℕ → ℕ → ℕ
-ding_signal q x coin = cond (within (neg_ℤ (pos (q / 4)) +ℤ pos coin) (pos (q / 4) +ℤ pos coin) (signed q x)) 0 1
+ding_signal q x coin =
+    if within (neg_ℤ (pos (q / 4)) +ℤ pos coin) (pos (q / 4) +ℤ pos coin) (signed q x) then 0 else 1
 
 -- the parity of the signed form, after (q-1)/2 is added where the signal is 1
 abbrev pub ding_read : ℕ → ℕ → ℕ → ℕ

@@ -1,5 +1,5 @@
 -- Faults of layer 1, the ring: what is reported of one, its layer, its number and its place, and what a refusal leaves.
-use Rattle.std.specs.Prelude.{ℕ, Ok, Err, Result}
+use Rattle.std.specs.Prelude.{ℕ, Ok, Err, Result, Bool, if◌then◌else◌}
 use Rattle.ring.specs.declared.fault.Fault.{Fault}
 use Rattle.ring.specs.declared.fault.Fault.TheVariants.{WrongLength, OutOfRange, SumTooLarge, CoinOutOfRange, SourceSpent}
 
@@ -23,6 +23,10 @@ number_of fault = (report fault).number
 
 abbrev pub place_of : Fault → ℕ
 place_of fault = (report fault).place
+
+-- the answer where a test is passed, and else a refusal with the fault
+abbrev pub checked : {X : Type 0} → Bool → Fault → Result X Fault → Result X Fault
+checked test fault answer = if test then answer else Err fault
 
 -- what is there after an answer: the new value if it accepts, the old one if it refuses
 abbrev pub after : {X : Type 0} → Result (Unit {0}) Fault → X → X → X

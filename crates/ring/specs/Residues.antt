@@ -1,6 +1,7 @@
 -- Residues modulo an odd q, and their signed forms.
-use Rattle.std.specs.Prelude.{◌≡◌, ℕ, ◌-◌, ◌/◌, ◌%◌, ◌^◌, ◌<◌, ◌≤◌, cond, ℤ, pos, ◌-ℤ◌, Some, None, Ok, Err, Option, Result, nat_le, nat_lt, unsigned_abs}
+use Rattle.std.specs.Prelude.{◌≡◌, ℕ, ◌-◌, ◌/◌, ◌%◌, ◌^◌, ◌<◌, ◌≤◌, ℤ, pos, ◌-ℤ◌, Some, None, Ok, Err, Option, Result, nat_le, nat_lt, unsigned_abs, if◌then◌else◌}
 use Rattle.std.specs.Int.{int_rem_euclid}
+use Rattle.ring.specs.Faults.{checked}
 use Rattle.ring.specs.declared.fault.Fault.{Fault}
 use Rattle.ring.specs.declared.fault.Fault.TheVariants.{OutOfRange}
 use Rattle.ring.specs.declared.modulus.Modulus.{Modulus}
@@ -11,7 +12,7 @@ residue q z = unsigned_abs (int_rem_euclid z (pos q))
 
 -- the signed form of a residue, in -(q-1)/2 .. (q-1)/2
 abbrev pub signed : ℕ → ℕ → ℤ
-signed q x = cond (nat_le x ((q - 1) / 2)) (pos x) (pos x -ℤ pos q)
+signed q x = if nat_le x ((q - 1) / 2) then pos x else (pos x -ℤ pos q)
 
 -- the numbers that a modulus may be
 pub record IsModulus (q : ℕ) : Type 0 where
@@ -24,7 +25,7 @@ modulus_from q (Some m) = (m.q ≡ q) × IsModulus q
 modulus_from q None = IsModulus q → ⊥
 
 abbrev pub signed_answer : ℕ → ℕ → Result ℤ Fault
-signed_answer q x = cond (nat_lt x q) (Ok (signed q x)) (Err (OutOfRange 0))
+signed_answer q x = checked (nat_lt x q) (OutOfRange 0) (Ok (signed q x))
 
 -- what is answered has x for its residue, and no more than (q-1)/2 for its size
 abbrev pub IsSignedForm : ℕ → ℕ → Result ℤ Fault → Type 0

@@ -1,7 +1,7 @@
 -- The numbers that are kept, one group on and at the end of the list.
-use Rattle.std.proofs.Common.{◌≡◌, ℕ, ◌+◌, ◌-◌, ◌/◌, ◌%◌, ◌^◌, ◌<◌, ◌≤◌, min, cond, ltb, List, [], ◌∷◌, ◌++◌, map, length, take, drop, set, Ok, Err, filter, sym, ap, ◌∙◌, subst, ⊎_elim, arith}
+use Rattle.std.proofs.Common.{◌≡◌, ℕ, ◌+◌, ◌-◌, ◌/◌, ◌%◌, ◌^◌, ◌<◌, ◌≤◌, min, cond, ltb, leb, List, [], ◌∷◌, ◌++◌, map, length, take, drop, set, Ok, Err, filter, sym, ap, ◌∙◌, subst, ⊎_elim, arith}
 use Rattle.std.proofs.lemmas.List.{take_more_set, append_assoc, append-nil, drop-drop, length-take-le}
-use Rattle.std.proofs.lemmas.Bool.{cases_lt, cond-true, cond-false, lt-ltb, le-ltb}
+use Rattle.std.proofs.lemmas.Bool.{cases_lt, cond-true, cond-false, lt-ltb, le-ltb, lt-leb}
 use Rattle.ring.specs.declared.fault.Fault.TheVariants.{SourceSpent}
 use Rattle.keccak.specs.Sponge.{little_endian}
 use Rattle.source.specs.Derivation.{bits, bytes_for, candidates, kept, keep_answer, WholeGroup}
@@ -76,4 +76,4 @@ module _ (q b c : ℕ) (width : b ≡ bits (q - 1)) (size : c ≡ b / 8 + min 1 
 pub spent_answer : (n : ℕ) (front all : List ℕ) (m : ℕ) → length front ≡ n → m < n → take m front ≡ all → Err (SourceSpent m) ≡ keep_answer n all
 spent_answer n front all m long short is =
     let count : length all ≡ m = ap (λ (xs : List ℕ). length xs) (sym is) ∙ length-take-le m front (omega arith) in
-    rw count (sym (cond-true (ltb m n) (Err (SourceSpent m)) (Ok tt) (lt-ltb m n short)))
+    rw count (sym (cond-false (leb n m) (Ok tt) (Err (SourceSpent m)) (lt-leb n m short)))

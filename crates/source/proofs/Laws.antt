@@ -1,11 +1,11 @@
 -- What holds of every derivation.
-use Rattle.std.proofs.Common.{◌≡◌, ℕ, zero, suc, ◌-◌, ◌/◌, ◌%◌, ◌^◌, ◌<◌, ◌≤◌, true, eqb, ltb, List, ◌∷◌, ◌++◌, map, length, take, drop, Ok, filter, sym, refl, ap, ◌∙◌, subst, ap₂, ⊎_elim, arith}
+use Rattle.std.proofs.Common.{◌≡◌, ℕ, zero, suc, ◌-◌, ◌/◌, ◌%◌, ◌^◌, ◌<◌, ◌≤◌, true, eqb, ltb, leb, List, ◌∷◌, ◌++◌, map, length, take, drop, Ok, filter, sym, refl, ap, ◌∙◌, subst, ap₂, ⊎_elim, arith}
 use native.Mathlib.Nat.{div-eq_of_lt, div-eq-sub-div}
 use Rattle.std.specs.Prelude.{All}
 use Rattle.std.proofs.lemmas.Nat.{le-div}
 use Rattle.std.proofs.lemmas.List.Elements.{All-take, All-weaker, filter_passes, filter-append}
 use Rattle.std.proofs.lemmas.List.{length-append, length-drop, length-take, length-take-le, map-append, take-append-le, drop-append-le}
-use Rattle.std.proofs.lemmas.Bool.{cases_lt, cond_both, eqb-true, eqb-false, ltb-true, ltb-false}
+use Rattle.std.proofs.lemmas.Bool.{cases_lt, cond_both, eqb-true, eqb-false, leb-true, leb-false, ltb-true}
 use Rattle.keccak.specs.Sponge.{little_endian}
 use Rattle.source.specs.Derivation.{bits, groups, candidates, kept, derived, derive_answer}
 use Rattle.source.specs.Laws.{DeriveMeans}
@@ -21,15 +21,15 @@ derive_means n q bytes places =
     cond_both (eqb places n) _ _ (DeriveMeans n q bytes places)
     (λ same.
     let fit : places ≡ n = eqb-true _ _ same in
-    cond_both (ltb (length (kept q bytes)) n) _ _ (DeriveMeans n q bytes places)
-    (λ few. (fit, refl, ltb-true _ _ few))
+    cond_both (leb n (length (kept q bytes))) _ _ (DeriveMeans n q bytes places)
     (λ enough. (
       fit,
       record {
-        long = length-take-le n (kept q bytes) (ltb-false _ _ enough);
+        long = length-take-le n (kept q bytes) (leb-true _ _ enough);
         below = All-take (λ x. x < q) n (kept q bytes) (kept_below q bytes);
       },
-    )))
+    ))
+    (λ few. (fit, refl, leb-false _ _ few)))
     (λ other. (eqb-false _ _ other, refl))
 
 -- ---- bytes after those that suffice

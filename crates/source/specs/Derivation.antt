@@ -1,9 +1,10 @@
 -- The element that a list of bytes gives: in groups of bytes, each a number, those below q are kept.
-use Rattle.std.specs.Prelude.{◌≡◌, ℕ, ◌+◌, ◌-◌, ◌*◌, ◌/◌, ◌%◌, ◌^◌, ◌<◌, ◌≤◌, ◌==◌, nat_lt, cond}
+use Rattle.std.specs.Prelude.{◌≡◌, ℕ, ◌+◌, ◌-◌, ◌*◌, ◌/◌, ◌%◌, ◌^◌, ◌<◌, ◌≤◌, ◌==◌, nat_lt, nat_le}
 use Rattle.std.specs.Prelude.{List, map, filter, length, take, drop, Option, Some, None, Result, Ok, Err}
 use Rattle.std.specs.List.{range_with_len}
 use Rattle.std.specs.Int.Digits.{digits_of}
 use Rattle.keccak.specs.Sponge.{little_endian}
+use Rattle.ring.specs.Faults.{checked}
 use Rattle.ring.specs.declared.fault.Fault.{Fault}
 use Rattle.ring.specs.declared.fault.Fault.TheVariants.{WrongLength, SourceSpent}
 
@@ -37,11 +38,11 @@ derived n q bytes = take n (kept q bytes)
 
 -- whether n numbers can be taken of those that are kept
 abbrev pub keep_answer : ℕ → List ℕ → Result (Unit {0}) Fault
-keep_answer n numbers = cond (nat_lt (length numbers) n) (Err (SourceSpent (length numbers))) (Ok tt)
+keep_answer n numbers = checked (nat_le n (length numbers)) (SourceSpent (length numbers)) (Ok tt)
 
 -- what a derivation into an output of so many places answers
 abbrev pub derive_answer : ℕ → ℕ → List ℕ → ℕ → Result (Unit {0}) Fault
-derive_answer n q bytes places = cond (places == n) (keep_answer n (kept q bytes)) (Err (WrongLength 4))
+derive_answer n q bytes places = checked (places == n) (WrongLength 4) (keep_answer n (kept q bytes))
 
 -- ---- one group, from a position on
 

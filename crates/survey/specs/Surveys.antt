@@ -1,6 +1,7 @@
 -- What is measured of a profile by going through every residue.
-use Rattle.std.specs.Prelude.{◌≡◌, ℕ, ◌+◌, ◌*◌, ◌^◌, ◌<◌, Bool, cond, ◌&&◌, ℤ, pos, ◌-ℤ◌, ◌≤ℤ◌, Ok, Err, Result, ◌==◌, nat_le, nat_lt}
+use Rattle.std.specs.Prelude.{◌≡◌, ℕ, ◌+◌, ◌*◌, ◌^◌, ◌<◌, Bool, ◌&&◌, ℤ, pos, ◌-ℤ◌, ◌≤ℤ◌, Ok, Err, Result, ◌==◌, nat_le, nat_lt, if◌then◌else◌}
 use Rattle.std.specs.Int.{int_min, int_max}
+use Rattle.ring.specs.Faults.{checked}
 use Rattle.ring.specs.declared.fault.Fault.{Fault}
 use Rattle.ring.specs.declared.fault.Fault.TheVariants.{OutOfRange, CoinOutOfRange}
 use Rattle.profile.specs.Counts.{count}
@@ -36,7 +37,7 @@ pub record Surveyed (k : Numbers) (f : Functions) (n : ℕ) (s : RoundingSurvey)
 
 -- a survey with one more residue, which is moved by d
 abbrev pub widened : RoundingSurvey → ℤ → Bool → RoundingSurvey
-widened s d tied = record { least = int_min s.least d; largest = int_max s.largest d; ties = s.ties + cond tied 1 0 }
+widened s d tied = record { least = int_min s.least d; largest = int_max s.largest d; ties = s.ties + (if tied then 1 else 0) }
 
 abbrev pub rounding_answer : Numbers → Functions → Result RoundingSurvey Fault → Type 0
 rounding_answer k f (Ok s) = Surveyed k f k.q s
@@ -44,8 +45,9 @@ rounding_answer k f (Err fault) = ⊥
 
 abbrev pub keys_answer : Numbers → Functions → ℕ → ℕ → Result KeyCounts Fault
 keys_answer k f coin signal =
-    cond (nat_lt signal (2 ^ k.signal_width))
-    (cond (nat_lt coin k.coins)
-    (Ok (record { zeros = key_count f.signal f.key_bit k.q coin signal 0; ones = key_count f.signal f.key_bit k.q coin signal 1 }))
-    (Err (CoinOutOfRange 0)))
-    (Err (OutOfRange 0))
+    checked (nat_lt signal (2 ^ k.signal_width)) (OutOfRange 0)
+    (checked (nat_lt coin k.coins) (CoinOutOfRange 0)
+    (Ok (record {
+      zeros = key_count f.signal f.key_bit k.q coin signal 0;
+      ones = key_count f.signal f.key_bit k.q coin signal 1;
+    })))
