@@ -1,9 +1,9 @@
 -- How far a list keeps within a bound: one step on, at the end, and what a front that is the whole list says.
-use Rattle.std.proofs.Common.{◌≡◌, ℕ, suc, ◌+◌, ◌<◌, ◌≤◌, eqb, ltb, leb, List, [], ◌∷◌, length, get_or, take, drop, ℤ, pos, nat_abs, sum_by, sym, refl, ◌∙◌, subst, ⊎_elim, add-one, one-add, arith}
+use Rattle.std.proofs.Common.{◌≡◌, ℕ, suc, ◌+◌, ◌<◌, ◌≤◌, eqb, leb, List, [], ◌∷◌, length, get_or, take, drop, ℤ, pos, nat_abs, sum_by, sym, refl, ◌∙◌, subst, ⊎_elim, add-one, one-add, arith}
 use Rattle.std.specs.List.{AllByRecursion as All}
 use Rattle.std.proofs.lemmas.List.{at_drop_more, at_drop_all}
 use Rattle.std.proofs.lemmas.List.Sums.{sum_by-cons}
-use Rattle.std.proofs.lemmas.Bool.{cases_Bool, cond-true, cond-false, cond_both, le-leb, lt-leb, leb-true, leb-false, eqb-true, eqb-false, ltb-true, ltb-false}
+use Rattle.std.proofs.lemmas.Bool.{cases_Bool, cond-true, cond-false, cond_both, le-leb, lt-leb, leb-true, leb-false, eqb-true, eqb-false}
 use Rattle.profile.specs.Secrets.{Bounds, FillMeans, FirstBeyond, FirstPast, fill_answer, front_within, front_summing}
 
 module _ (xs : List ℤ) (i : ℕ) where

@@ -14,8 +14,8 @@ impl<const N: usize, const E: u32, const L: u32> SecretPlace for Place<N, E, L> 
 
     ghost memory = { place_memory };
 
-    fn new(heap: Global) -> Result<Self, AllocError> {
-        let coefficients = vec![in heap; 0i32; N]?;
+    fn new(alloc: Global) -> Result<Self, AllocError> {
+        let coefficients = vec![in alloc; 0i32; N]?;
         Ok(Place {
             coefficients,
             filled: false,

@@ -17,7 +17,7 @@ pub trait SecretPlace {
     ghost memory: { Self → List ℤ };
 
     // A new place is unfilled. Its memory is got here, and no later call asks for any.
-    fn new(heap: Global) -> Result<Self, AllocError>
+    fn new(alloc: Global) -> Result<Self, AllocError>
     where
         Self: Sized,
         ensures unfilled { IfOk result (λ place. held place ≡ None) }

@@ -1,6 +1,6 @@
 -- The element that a list of bytes gives: in groups of bytes, each a number, those below q are kept.
 use Rattle.std.specs.Prelude.{◌≡◌, ℕ, ◌+◌, ◌-◌, ◌*◌, ◌/◌, ◌%◌, ◌^◌, ◌<◌, ◌≤◌, ◌==◌, nat_lt, nat_le}
-use Rattle.std.specs.Prelude.{List, map, filter, length, take, drop, Option, Some, None, Result, Ok, Err}
+use Rattle.std.specs.Prelude.{List, map, filter, length, take, drop, Option, Some, None, Result, Ok}
 use Rattle.std.specs.List.{range_with_len}
 use Rattle.std.specs.Int.Digits.{digits_of}
 use Rattle.keccak.specs.Sponge.{little_endian}
