@@ -13,15 +13,15 @@ fn main() {
 
     let folder = env::var("PROVED_LIBRARY_DIR").unwrap_or_else(|_| {
         let here = env::var("CARGO_MANIFEST_DIR").expect("cargo sets CARGO_MANIFEST_DIR");
-        format!("{here}/../target/staticlib")
+        format!("{here}/../crates/exports_c/out")
     });
-    let library = Path::new(&folder).join("libexports.a");
+    let library = Path::new(&folder).join("libexports_c.a");
     println!("cargo:rerun-if-changed={}", library.display());
     if !library.exists() {
-        println!("cargo:warning={} is not there: `rt staticlib exports` makes it", library.display());
+        println!("cargo:warning={} is not there: `rt lib` in crates/exports_c makes it", library.display());
     }
     println!("cargo:rustc-link-search=native={folder}");
-    println!("cargo:rustc-link-lib=static=exports");
+    println!("cargo:rustc-link-lib=static=exports_c");
 
     for argument in env::var("PROVED_LINK_ARGS").unwrap_or_default().split_whitespace() {
         println!("cargo:rustc-link-arg={argument}");

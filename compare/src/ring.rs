@@ -96,7 +96,7 @@ impl Multiplier for Schoolbook {
 }
 
 /// The sum of the products of the first number with the last, the second with the last but one, and so on. By index, since
-/// a zip with the reversed list takes longer: 62 microseconds for a product at S, in place of 54.
+/// a zip with the reversed list takes longer.
 #[allow(clippy::needless_range_loop)]
 fn reversed_dot(left: &[u32], right: &[u32]) -> u64 {
     let m = left.len();
@@ -113,22 +113,25 @@ fn reversed_dot(left: &[u32], right: &[u32]) -> u64 {
 pub struct RowSum(pub Ring);
 
 impl RowSum {
-    /// How many coefficients are added up at a time, in 64 bits each. At S, 32 took the least time of 16, 32 and 64, and two
-    /// rows at a time took less than one.
-    const TILE: usize = 32;
+    /// So many sums, of 64 bits each, stand on the stack. Of the shapes that were tried at S - tiles of 4 to 32 sums with one,
+    /// two or four rows at a time, and all sums with one or four rows at a time - all sums with four rows took the least time.
+    const LARGEST_DEGREE: usize = 1024;
 }
 
 /// Adds a multiple of one row.
-fn add_one(sums: &mut [u64], (x, row): (u32, &[u32])) {
+fn add_one(sums: &mut [u64], x: u32, row: &[u32]) {
     for (sum, &word) in zip(sums, row) {
         *sum += u64::from(x) * u64::from(word);
     }
 }
 
-/// Adds multiples of two rows in one pass over the sums.
-fn add_two(sums: &mut [u64], (x, first): (u32, &[u32]), (y, second): (u32, &[u32])) {
-    for (sum, (&word, &other)) in zip(sums, zip(first, second)) {
-        *sum += u64::from(x) * u64::from(word) + u64::from(y) * u64::from(other);
+/// Adds multiples of four rows in one pass over the sums.
+fn add_four(sums: &mut [u64], x: [u32; 4], rows: [&[u32]; 4]) {
+    let n = sums.len();
+    let [a, b, c, d] = rows.map(|row| &row[..n]);
+    let x = x.map(u64::from);
+    for k in 0..n {
+        sums[k] += x[0] * u64::from(a[k]) + x[1] * u64::from(b[k]) + x[2] * u64::from(c[k]) + x[3] * u64::from(d[k]);
     }
 }
 
@@ -149,19 +152,19 @@ impl Multiplier for RowSum {
         }
         copied.copy_from_slice(right);
 
-        for (tile, coefficients) in output.chunks_mut(Self::TILE).enumerate() {
-            let start = tile * Self::TILE;
-            let sums = &mut [0_u64; Self::TILE][..coefficients.len()];
-            for (pair, coefficients) in left.chunks(2).enumerate() {
-                let row = |i: usize| &scratch[n - i + start..][..sums.len()];
-                match *coefficients {
-                    [x, y] => add_two(sums, (x, row(2 * pair)), (y, row(2 * pair + 1))),
-                    _ => add_one(sums, (left[2 * pair], row(2 * pair))),
-                }
-            }
-            for (coefficient, &sum) in zip(coefficients, &*sums) {
-                *coefficient = (sum % u64::from(q)) as u32;
-            }
+        let sums = &mut [0_u64; Self::LARGEST_DEGREE][..n];
+        let row = |i: usize| &scratch[n - i..][..n];
+        let fours = left.chunks_exact(4);
+        let rest = n - fours.remainder().len();
+        for (j, &x) in fours.remainder().iter().enumerate() {
+            add_one(sums, x, row(rest + j));
+        }
+        for (four, x) in fours.enumerate() {
+            let i = 4 * four;
+            add_four(sums, [x[0], x[1], x[2], x[3]], [row(i), row(i + 1), row(i + 2), row(i + 3)]);
+        }
+        for (coefficient, &sum) in zip(output, &*sums) {
+            *coefficient = (sum % u64::from(q)) as u32;
         }
     }
 }
