@@ -1,6 +1,6 @@
 -- The laws of the product of integer lists and of elements, for every n and modulus q.
-use Rattle.std.specs.Prelude.{◌≡◌, ℕ, ◌+◌, ◌*◌, ◌<◌, ◌≤◌, List, [], ◌∷◌, ◌++◌, map, length, ℤ, pos, ◌+ℤ◌, ◌*ℤ◌, neg_ℤ, sum_by, unsigned_abs}
-use Rattle.std.specs.List.{range_with_len, AllByRecursion as All}
+use Rattle.std.specs.Prelude.{◌≡◌, ℕ, ◌+◌, ◌*◌, ◌<◌, ◌≤◌, List, [], ◌∷◌, ◌++◌, map, length, ℤ, pos, ◌+ℤ◌, ◌*ℤ◌, neg_ℤ, sum_by, unsigned_abs, All}
+use Rattle.std.specs.List.{range_with_len}
 use Rattle.ring.specs.Residues.{residue}
 use Rattle.element.specs.Products.{at, coefficient, integer_product, product}
 

@@ -1,6 +1,7 @@
 -- How far a list keeps within a bound: one step on, at the end, and what a front that is the whole list says.
 use Rattle.std.proofs.Common.{◌≡◌, ℕ, suc, ◌+◌, ◌<◌, ◌≤◌, eqb, leb, List, [], ◌∷◌, length, get_or, take, drop, ℤ, pos, nat_abs, sum_by, sym, refl, ◌∙◌, subst, ⊎_elim, add-one, one-add, arith}
-use Rattle.std.specs.List.{AllByRecursion as All}
+use Rattle.std.specs.Prelude.{All}
+use Rattle.std.proofs.lemmas.List.Elements.{All-nil, All-cons}
 use Rattle.std.proofs.lemmas.List.{at_drop_more, at_drop_all}
 use Rattle.std.proofs.lemmas.List.Sums.{sum_by-cons}
 use Rattle.std.proofs.lemmas.Bool.{cases_Bool, cond-true, cond-false, cond_both, le-leb, lt-leb, leb-true, leb-false, eqb-true, eqb-false}
@@ -27,10 +28,10 @@ module _ (xs : List ℤ) (i : ℕ) where
     summing_end h = at_drop_all (front_summing sum l) xs i h
 
 pub all_within : (e : ℕ) (xs : List ℤ) → length xs ≤ front_within e xs → All (λ x. nat_abs x ≤ e) xs
-all_within e [] h = tt
+all_within e [] h = All-nil (λ x. nat_abs x ≤ e)
 all_within e (x ∷ xs) h =
     ⊎_elim
-    (λ t. (leb-true _ _ t, all_within e xs (omega (arith, cond-true (leb (nat_abs x) e) (1 + front_within e xs) 0 t))))
+    (λ t. All-cons (λ y. nat_abs y ≤ e) x xs (leb-true _ _ t) (all_within e xs (omega (arith, cond-true (leb (nat_abs x) e) (1 + front_within e xs) 0 t))))
     (λ f. absurd (omega (arith, cond-false (leb (nat_abs x) e) (1 + front_within e xs) 0 f)))
     (cases_Bool (leb (nat_abs x) e))
 
@@ -53,10 +54,10 @@ within_first e (x ∷ xs) h =
     (λ t.
     let more : front_within e (x ∷ xs) ≡ suc (front_within e xs) = cond-true (leb (nat_abs x) e) (1 + front_within e xs) 0 t ∙ one-add (front_within e xs) in
     let rest = within_first e xs (omega arith) in
-    subst (FirstBeyond e (x ∷ xs)) (sym more) (record { inside = omega (arith, rest.inside); before = (leb-true _ _ t, rest.before); here = rest.here }))
+    subst (FirstBeyond e (x ∷ xs)) (sym more) (record { inside = omega (arith, rest.inside); before = All-cons (λ y. nat_abs y ≤ e) x (take (front_within e xs) xs) (leb-true _ _ t) rest.before; here = rest.here }))
     (λ f.
     let stop : front_within e (x ∷ xs) ≡ 0 = cond-false (leb (nat_abs x) e) (1 + front_within e xs) 0 f in
-    subst (FirstBeyond e (x ∷ xs)) (sym stop) (record { inside = omega arith; before = tt; here = leb-false _ _ f }))
+    subst (FirstBeyond e (x ∷ xs)) (sym stop) (record { inside = omega arith; before = All-nil (λ y. nat_abs y ≤ e); here = leb-false _ _ f }))
     (cases_Bool (leb (nat_abs x) e))
 
 -- i is where the sum, running on from `sum`, first passes l

@@ -1,7 +1,7 @@
 -- What a secret is, and what a place for one answers and holds.
-use Rattle.std.specs.Prelude.{◌≡◌, ℕ, ◌+◌, ◌<◌, ◌≤◌, leb, List, [], ◌∷◌, length, take, replicate, ℤ, pos, Some, None, Ok, Err, sum_by, Option, Result, ◌==◌, ◌≢◌, nat_le, slice_index_or, unsigned_abs, if◌then◌else◌}
+use Rattle.std.specs.Prelude.{◌≡◌, ℕ, ◌+◌, ◌<◌, ◌≤◌, leb, List, [], ◌∷◌, length, take, replicate, ℤ, pos, Some, None, Ok, Err, sum_by, Option, Result, ◌==◌, ◌≢◌, nat_le, slice_index_or, unsigned_abs, if◌then◌else◌, All}
 use Rattle.std.specs.Borrow.{Bor}
-use Rattle.std.specs.List.{prefix_len, AllByRecursion as All}
+use Rattle.std.specs.List.{prefix_len}
 use Rattle.ring.specs.Faults.{checked}
 use Rattle.ring.specs.declared.fault.Fault.{Fault}
 use Rattle.ring.specs.declared.fault.Fault.TheVariants.{WrongLength, OutOfRange, SumTooLarge, CoinOutOfRange, SourceSpent}

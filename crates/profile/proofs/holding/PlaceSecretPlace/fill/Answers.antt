@@ -1,5 +1,5 @@
 use Rattle.std.proofs.Common.{◌≤◌, List, get_or, ℤ, pos, nat_abs, sum_by, sym, subst, arith}
-use Rattle.std.proofs.ByRecursion.{All-get_or}
+use Rattle.std.proofs.lemmas.List.Elements.{All-get_or}
 use Rattle.profile.proofs.Fronts.{all_within, sum_within}
 use Rattle.profile.proofs.holding.PlaceSecretPlace.fill.Goals as goal
 

@@ -1,5 +1,5 @@
 use Rattle.std.proofs.Common.{◌≤◌, pos, nat_abs, vec_items, sym, subst, arith}
-use Rattle.std.proofs.ByRecursion.{All-from_get_or}
+use Rattle.std.proofs.lemmas.List.Elements.{All-from_get_or}
 use Rattle.profile.specs.Places.{place_bounds}
 use Rattle.profile.specs.Secrets.{LawfulSecret}
 use Rattle.profile.proofs.holding.PlaceSecretPlace.secret.Goals as goal
