@@ -34,9 +34,9 @@ fn shake_gives_twenty_four_blocks(rt: HostRuntime) -> Result<(), Fail> {
     }
     assert_eq!(rt; source.next(), None);
     assert_eq!(rt; source.next(), None);
-    assert_eq!(rt; &bytes[0..4], &[152, 72, 25, 70]);
-    assert_eq!(rt; &bytes[166..170], &[67, 201, 218, 94]);
-    assert_eq!(rt; &bytes[4030..4032], &[173, 129]);
+    assert_eq!(rt; &bytes[0..4], [152, 72, 25, 70].as_slice());
+    assert_eq!(rt; &bytes[166..170], [67, 201, 218, 94].as_slice());
+    assert_eq!(rt; &bytes[4030..4032], [173, 129].as_slice());
     Ok(())
 }
 

@@ -1,5 +1,5 @@
 -- What the exported functions on elements leave and answer.
-use Rattle.std.specs.Prelude.{◌≡◌, ℕ, ◌*◌, ◌<◌, cond, List, length, Result, ◌==◌}
+use Rattle.std.specs.Prelude.{◌≡◌, ℕ, ◌*◌, ◌<◌, if◌then◌else◌, List, length, Result, ◌==◌}
 use Rattle.ring.specs.Faults.{after}
 use Rattle.ring.specs.Residues.{IsModulus}
 use Rattle.ring.specs.declared.fault.Fault.{Fault}
@@ -14,27 +14,27 @@ use Rattle.exports.specs.Codes.{done_code, no_call}
 
 -- the words that the chosen multiplier needs: none for the schoolbook, 2n for the row sum
 abbrev pub need_of : (row_sum n : ℕ) → ℕ
-need_of row_sum n = cond (row_sum == 0) 0 (2 * n)
+need_of row_sum n = if row_sum == 0 then 0 else 2 * n
 
-module _ (row_sum n q : ℕ) (left right scratch scratch_after output output-after : List ℕ) (code : ℕ) where
+module _ (row_sum n q : ℕ) (left right scratch scratch_after output output_after : List ℕ) (code : ℕ) where
   abbrev answer : Result (Unit {0}) Fault
   answer = multiply_answer n q (need_of row_sum n) left right (length scratch) (length output)
 
   -- a product in a ring that there is
   pub record Called : Type 0 where
     pub answers : code ≡ done_code answer
-    pub writes : output-after ≡ after answer (product n q left right) output
+    pub writes : output_after ≡ after answer (product n q left right) output
     pub clears : scratch_after ≡ zeroed scratch
 
   -- no ring, no call
   pub record NotCalled : Type 0 where
     pub answers : code ≡ no_call
-    pub same_output : output-after ≡ output
+    pub same_output : output_after ≡ output
     pub same_scratch : scratch_after ≡ scratch
 
   pub record Multiplied : Type 0 where
-    pub in-a-ring : IsDegree n × IsModulus q → Called
-    pub in-none : (IsDegree n × IsModulus q → ⊥) → NotCalled
+    pub in_a_ring : IsDegree n × IsModulus q → Called
+    pub in_none : (IsDegree n × IsModulus q → ⊥) → NotCalled
     -- every other answer means that there is a ring
     pub only_in_a_ring : code < no_call → IsDegree n × IsModulus q
 
@@ -48,8 +48,12 @@ derive_output k bytes output = after (derive_answer k.n k.q bytes (length output
 -- the same from a seed, which has 16 bytes, for the profile of an index
 abbrev pub derive_seed_code : ℕ → List ℕ → List ℕ → ℕ
 derive_seed_code profile seed output =
-    cond (length seed == 16) (by_profile (λ k _. derive_code k (shake128 seed 4032) output) no_call profile) no_call
+    if length seed == 16
+    then by_profile (λ k _. derive_code k (shake128 seed 4032) output) no_call profile
+    else no_call
 
 abbrev pub derive_seed_output : ℕ → List ℕ → List ℕ → List ℕ
 derive_seed_output profile seed output =
-    cond (length seed == 16) (by_profile (λ k _. derive_output k (shake128 seed 4032) output) output profile) output
+    if length seed == 16
+    then by_profile (λ k _. derive_output k (shake128 seed 4032) output) output profile
+    else output

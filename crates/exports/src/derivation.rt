@@ -18,8 +18,10 @@ fn derive_code<P: Profile, B: ByteSource>(
     seed: &[u8; 16],
     output: &mut [u32],
 ) -> u64
-    ensures answers { result ≡ derive_code P.Profile.numbers (B.ByteSource.meaning source.old seed.now) output.old }
-    ensures writes { output.new ≡ derive_output P.Profile.numbers (B.ByteSource.meaning source.old seed.now) output.old }
+    ensures answers { result
+        ≡ derive_code P.NUMBERS (B.meaning source.old seed.now) output.old }
+    ensures writes { output.new
+        ≡ derive_output P.NUMBERS (B.meaning source.old seed.now) output.old }
 {
     done_code(derive::<P, B>(source, seed, output))
 }
@@ -31,8 +33,10 @@ fn derive_by_profile<B: ByteSource>(
     seed: &[u8; 16],
     output: &mut [u32],
 ) -> u64
-    ensures answers { result ≡ by_profile (λ numbers _. derive_code numbers (B.ByteSource.meaning source.old seed.now) output.old) no_call profile }
-    ensures writes { output.new ≡ by_profile (λ numbers _. derive_output numbers (B.ByteSource.meaning source.old seed.now) output.old) output.old profile }
+    ensures answers { let bytes = B.meaning source.old seed.now in
+        result ≡ by_profile (λ numbers _. derive_code numbers bytes output.old) no_call profile }
+    ensures writes { let bytes = B.meaning source.old seed.now in
+        output.new ≡ by_profile (λ numbers _. derive_output numbers bytes output.old) output.old profile }
 {
     match profile {
         0 => derive_code::<House<T, Ding>, B>(source, seed, output),
@@ -45,17 +49,16 @@ fn derive_by_profile<B: ByteSource>(
     }
 }
 
-#[unsafe(no_mangle)]
-pub extern "C" fn exported_derive_tape(profile: u8, tape: &[u8], output: &mut [u32]) -> u64
+pub fn exported_derive_tape(profile: u8, tape: &[u8], output: &mut [u32]) -> u64
     ensures answers { result ≡ by_profile (λ numbers _. derive_code numbers tape.now output.old) no_call profile }
-    ensures writes { output.new ≡ by_profile (λ numbers _. derive_output numbers tape.now output.old) output.old profile }
+    ensures writes { output.new
+        ≡ by_profile (λ numbers _. derive_output numbers tape.now output.old) output.old profile }
 {
     derive_by_profile(profile, &mut Tape::new(tape), &[0; 16], output)
 }
 
 // By SHAKE128 of a seed, if it has 16 bytes.
-#[unsafe(no_mangle)]
-pub extern "C" fn exported_derive_shake(profile: u8, seed: &[u8], output: &mut [u32]) -> u64
+pub fn exported_derive_shake(profile: u8, seed: &[u8], output: &mut [u32]) -> u64
     ensures answers { result ≡ derive_seed_code profile seed.now output.old }
     ensures writes { output.new ≡ derive_seed_output profile seed.now output.old }
 {
@@ -67,8 +70,7 @@ pub extern "C" fn exported_derive_shake(profile: u8, seed: &[u8], output: &mut [
     derive_by_profile(profile, &mut ShakeSource::new(), &whole, output)
 }
 
-#[unsafe(no_mangle)]
-pub extern "C" fn exported_shake128(message: &[u8], output: &mut [u8])
+pub fn exported_shake128(message: &[u8], output: &mut [u8])
     ensures { output.new ≡ shake128_of message.now (length output.old) }
 {
     shake128(message, output);

@@ -13,7 +13,8 @@ fn multiply_in(
     scratch: &mut [u32],
     output: &mut [u32],
 ) -> u64
-    ensures { Called row_sum ring.degree ring.modulus.q left.now right.now scratch.old scratch.new output.old output.new result }
+    ensures { Called row_sum ring.degree ring.modulus.q left.now right.now
+        scratch.old scratch.new output.old output.new result }
 {
     if row_sum == 0 {
         done_code(Schoolbook::new(ring).multiply(left, right, scratch, output))
@@ -23,8 +24,7 @@ fn multiply_in(
 }
 
 // Multiplies in the ring of degree n and modulus q, if there is such a ring.
-#[unsafe(no_mangle)]
-pub extern "C" fn exported_multiply(
+pub fn exported_multiply(
     row_sum: u8,
     n: usize,
     q: u32,

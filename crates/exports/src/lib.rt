@@ -1,4 +1,5 @@
-// The functions of the library that C and Rust can link: on numbers and slices, for tests and benchmarks.
+// The functions that C and Rust can link, through the static library of exports_c: on numbers and slices, for tests and
+// benchmarks.
 #![tactic(auto)]
 
 mod codes;

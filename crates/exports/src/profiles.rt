@@ -1,5 +1,5 @@
-// The four functions of the house profiles, by the index of a profile: 0 T Ding, 1 T OKCN, 2 S Ding, 3 S OKCN, 4 W Ding,
-// 5 W OKCN.
+// The four functions of the house profiles, by the index of a profile:
+// 0 T Ding, 1 T OKCN, 2 S Ding, 3 S OKCN, 4 W Ding, 5 W OKCN.
 ghost use Rattle.std.specs.Prelude.{◌≡◌};
 ghost use Rattle.profile.specs.Answers.{round_answer, recover_answer, reconcile_answer, read_answer};
 ghost use Rattle.exports.specs.ByProfile.{by_profile};
@@ -26,7 +26,7 @@ macro_rules! by_profile {
 }
 
 fn round_code<P: Profile>(x: u32) -> u64
-    ensures { result ≡ value_code (round_answer P.Profile.numbers P.Profile.functions x) }
+    ensures { result ≡ value_code (round_answer P.NUMBERS P.functions x) }
 {
     match P::round(x) {
         Ok(y) => u64::from(y),
@@ -35,7 +35,7 @@ fn round_code<P: Profile>(x: u32) -> u64
 }
 
 fn recover_code<P: Profile>(y: u32) -> u64
-    ensures { result ≡ value_code (recover_answer P.Profile.numbers P.Profile.functions y) }
+    ensures { result ≡ value_code (recover_answer P.NUMBERS P.functions y) }
 {
     match P::recover(y) {
         Ok(t) => u64::from(t),
@@ -44,7 +44,7 @@ fn recover_code<P: Profile>(y: u32) -> u64
 }
 
 fn reconcile_code<P: Profile>(x: u32, coin: u8) -> u64
-    ensures { result ≡ pair_code (reconcile_answer P.Profile.numbers P.Profile.functions x coin) }
+    ensures { result ≡ pair_code (reconcile_answer P.NUMBERS P.functions x coin) }
 {
     match P::reconcile(x, coin) {
         Ok((signal, bit)) => 2 * u64::from(signal) + u64::from(bit),
@@ -53,7 +53,7 @@ fn reconcile_code<P: Profile>(x: u32, coin: u8) -> u64
 }
 
 fn read_code<P: Profile>(y: u32, signal: u8) -> u64
-    ensures { result ≡ value_code (read_answer P.Profile.numbers P.Profile.functions y signal) }
+    ensures { result ≡ value_code (read_answer P.NUMBERS P.functions y signal) }
 {
     match P::read(y, signal) {
         Ok(bit) => u64::from(bit),
@@ -61,30 +61,30 @@ fn read_code<P: Profile>(y: u32, signal: u8) -> u64
     }
 }
 
-#[unsafe(no_mangle)]
-pub extern "C" fn exported_round(profile: u8, x: u32) -> u64
-    ensures { result ≡ by_profile (λ numbers functions. value_code (round_answer numbers functions x)) no_call profile }
+pub fn exported_round(profile: u8, x: u32) -> u64
+    ensures { result
+        ≡ by_profile (λ numbers functions. value_code (round_answer numbers functions x)) no_call profile }
 {
     by_profile!(profile, round_code, x)
 }
 
-#[unsafe(no_mangle)]
-pub extern "C" fn exported_recover(profile: u8, y: u32) -> u64
-    ensures { result ≡ by_profile (λ numbers functions. value_code (recover_answer numbers functions y)) no_call profile }
+pub fn exported_recover(profile: u8, y: u32) -> u64
+    ensures { result
+        ≡ by_profile (λ numbers functions. value_code (recover_answer numbers functions y)) no_call profile }
 {
     by_profile!(profile, recover_code, y)
 }
 
-#[unsafe(no_mangle)]
-pub extern "C" fn exported_reconcile(profile: u8, x: u32, coin: u8) -> u64
-    ensures { result ≡ by_profile (λ numbers functions. pair_code (reconcile_answer numbers functions x coin)) no_call profile }
+pub fn exported_reconcile(profile: u8, x: u32, coin: u8) -> u64
+    ensures { result
+        ≡ by_profile (λ numbers functions. pair_code (reconcile_answer numbers functions x coin)) no_call profile }
 {
     by_profile!(profile, reconcile_code, x, coin)
 }
 
-#[unsafe(no_mangle)]
-pub extern "C" fn exported_read(profile: u8, y: u32, signal: u8) -> u64
-    ensures { result ≡ by_profile (λ numbers functions. value_code (read_answer numbers functions y signal)) no_call profile }
+pub fn exported_read(profile: u8, y: u32, signal: u8) -> u64
+    ensures { result
+        ≡ by_profile (λ numbers functions. value_code (read_answer numbers functions y signal)) no_call profile }
 {
     by_profile!(profile, read_code, y, signal)
 }

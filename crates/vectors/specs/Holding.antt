@@ -7,7 +7,8 @@ use Rattle.source.specs.Derivation.{derived}
 use Rattle.exports.specs.ByProfile.{by_profile}
 use Rattle.exports.specs.Codes.{value_code, pair_code, no_call}
 use Rattle.vectors.specs.declared.line.Group.{Group}
-use Rattle.vectors.specs.declared.line.Group.TheVariants.{Published, Output, Product, Derived, Rounded, Reconciled, Read}
+use Rattle.vectors.specs.declared.line.Group.TheVariants.{Published, Output, Product, Derived}
+use Rattle.vectors.specs.declared.line.Group.TheVariants.{Rounded, Reconciled, Read}
 
 -- number i of a line
 abbrev pub number : List ℕ → ℕ → ℕ
@@ -24,12 +25,14 @@ OutputHolds line = shake128 (part line 0 (number line 0)) (number line 1) ≡ pa
 -- n, q, two elements and their product
 abbrev pub ProductHolds : List ℕ → Type 0
 ProductHolds line =
-    product (number line 0) (number line 1) (part line 0 (number line 0)) (part line (number line 0) (number line 0)) ≡ part line (2 * number line 0) (number line 0)
+    product (number line 0) (number line 1) (part line 0 (number line 0)) (part line (number line 0) (number line 0))
+    ≡ part line (2 * number line 0) (number line 0)
 
 -- a profile, n, a seed and its element
 abbrev pub DerivedHolds : List ℕ → Type 0
 DerivedHolds line =
-    by_profile (λ k _. derived k.n k.q (shake128 (part line 0 16) 4032)) [] (number line 0) ≡ part line 16 (number line 1)
+    by_profile (λ k _. derived k.n k.q (shake128 (part line 0 16) 4032)) [] (number line 0)
+    ≡ part line 16 (number line 1)
 
 -- a profile, a residue, its rounded value, and what that recovers to
 abbrev pub RoundedHolds : List ℕ → Type 0
@@ -40,11 +43,13 @@ RoundedHolds line =
 -- a profile, a residue, a coin, and their signal and key bit
 abbrev pub ReconciledHolds : List ℕ → Type 0
 ReconciledHolds line =
-    by_profile (λ k f. pair_code (reconcile_answer k f (number line 1) (number line 2))) no_call (number line 0) ≡ 2 * number line 3 + number line 4
+    by_profile (λ k f. pair_code (reconcile_answer k f (number line 1) (number line 2))) no_call (number line 0)
+    ≡ 2 * number line 3 + number line 4
 
 -- a profile, a residue, a signal, and the key bit that is read
 abbrev pub ReadHolds : List ℕ → Type 0
-ReadHolds line = by_profile (λ k f. value_code (read_answer k f (number line 1) (number line 2))) no_call (number line 0) ≡ number line 3
+ReadHolds line =
+    by_profile (λ k f. value_code (read_answer k f (number line 1) (number line 2))) no_call (number line 0) ≡ number line 3
 
 abbrev pub Holds : Group → List ℕ → Type 0
 Holds Published line = OutputHolds line

@@ -1,12 +1,14 @@
 // Whether a vector holds of the library.
-ghost use Rattle.std.specs.Prelude.{◌≡◌, ◌≤◌, true, [], length, IfOk};
+ghost use Rattle.std.specs.Prelude.{◌≡◌, ◌≤◌, ◌↔◌, true, [], length, IfOk, IsTrue};
 ghost use Rattle.element.specs.Products.{product};
 ghost use Rattle.exports.specs.ByProfile.{by_profile};
 ghost use Rattle.keccak.specs.Sponge.{shake128};
 ghost use Rattle.source.specs.Derivation.{derived};
-ghost use Rattle.vectors.specs.Holding.{OutputHolds, ProductHolds, DerivedHolds, RoundedHolds, ReconciledHolds, ReadHolds, Holds};
+ghost use Rattle.vectors.specs.Holding.{OutputHolds, ProductHolds, DerivedHolds};
+ghost use Rattle.vectors.specs.Holding.{RoundedHolds, ReconciledHolds, ReadHolds, Holds};
 
 use crate::line::Group;
+use anyhow::bail;
 use exports::{
     exported_derive_shake, exported_multiply, exported_read, exported_reconcile, exported_recover,
     exported_round, exported_shake128,
@@ -18,10 +20,10 @@ const MALFORMED: &str = "a line of the wrong length";
 // The largest count that a line has: none of its lists is longer.
 const MOST: usize = 4096;
 
-fn bytes(heap: Global, numbers: &[u32]) -> anyhow::Result<Vec<u8>>
+fn bytes(alloc: Global, numbers: &[u32]) -> anyhow::Result<Vec<u8>>
     ensures { IfOk result (λ v. v.items ≡ numbers.now) }
 {
-    let mut bytes = Vec::new(heap);
+    let mut bytes = Vec::new(alloc);
     for number in numbers {
         bytes.push(u8::try_from(*number)?)?;
     }
@@ -33,32 +35,32 @@ fn count(number: u32) -> anyhow::Result<usize>
 {
     let count = number as usize;
     if count > MOST {
-        return Err(MALFORMED.into());
+        bail!(MALFORMED);
     }
     Ok(count)
 }
 
 // Whether SHAKE128 of the message is the expected output.
 fn hashes_to(message: &[u8], expected: &[u8], output: &mut [u8]) -> bool
-    ensures { result ≡ true → shake128 message.now (length output.old) ≡ expected.now }
+    ensures { IsTrue result ↔ (shake128 message.now (length output.old) ≡ expected.now) }
 {
     exported_shake128(message, output);
     &output[..] == expected
 }
 
-fn check_output(heap: Global, numbers: &[u32]) -> anyhow::Result<bool>
-    ensures { IfOk result (λ holds. holds ≡ true → OutputHolds numbers.now) }
+fn check_output(alloc: Global, numbers: &[u32]) -> anyhow::Result<bool>
+    ensures { IfOk result (λ holds. IsTrue holds ↔ OutputHolds numbers.now) }
 {
     let [message_len, output_len, rest @ ..] = numbers else {
-        return Err(MALFORMED.into());
+        bail!(MALFORMED);
     };
     let (m, d) = (count(*message_len)?, count(*output_len)?);
     if rest.len() != m + d {
-        return Err(MALFORMED.into());
+        bail!(MALFORMED);
     }
-    let message = bytes(heap, &rest[0..m])?;
-    let expected = bytes(heap, &rest[m..m + d])?;
-    let mut output = vec![in heap; 0u8; d]?;
+    let message = bytes(alloc, &rest[0..m])?;
+    let expected = bytes(alloc, &rest[m..m + d])?;
+    let mut output = vec![in alloc; 0u8; d]?;
     Ok(hashes_to(&message, &expected, &mut output))
 }
 
@@ -78,19 +80,19 @@ fn multiplies_to(
     answer == 0 && &output[..] == expected
 }
 
-fn check_product(heap: Global, numbers: &[u32]) -> anyhow::Result<bool>
+fn check_product(alloc: Global, numbers: &[u32]) -> anyhow::Result<bool>
     ensures { IfOk result (λ holds. holds ≡ true → ProductHolds numbers.now) }
 {
     let [degree, q, rest @ ..] = numbers else {
-        return Err(MALFORMED.into());
+        bail!(MALFORMED);
     };
     let n = count(*degree)?;
     if rest.len() != 3 * n {
-        return Err(MALFORMED.into());
+        bail!(MALFORMED);
     }
     let (left, right, expected) = (&rest[0..n], &rest[n..2 * n], &rest[2 * n..3 * n]);
-    let mut scratch = vec![in heap; 0u32; 2 * n]?;
-    let mut output = vec![in heap; 0u32; n]?;
+    let mut scratch = vec![in alloc; 0u32; 2 * n]?;
+    let mut output = vec![in alloc; 0u32; n]?;
     let schoolbook = multiplies_to(0, *q, left, right, expected, &mut scratch, &mut output);
     output.fill(0);
     let row_sum = multiplies_to(1, *q, left, right, expected, &mut scratch, &mut output);
@@ -105,18 +107,18 @@ fn derives_to(profile: u8, seed: &[u8], expected: &[u32], output: &mut [u32]) ->
     answer == 0 && &output[..] == expected
 }
 
-fn check_derived(heap: Global, numbers: &[u32]) -> anyhow::Result<bool>
+fn check_derived(alloc: Global, numbers: &[u32]) -> anyhow::Result<bool>
     ensures { IfOk result (λ holds. holds ≡ true → DerivedHolds numbers.now) }
 {
     let [profile, degree, rest @ ..] = numbers else {
-        return Err(MALFORMED.into());
+        bail!(MALFORMED);
     };
     let n = count(*degree)?;
     if rest.len() != 16 + n {
-        return Err(MALFORMED.into());
+        bail!(MALFORMED);
     }
-    let seed = bytes(heap, &rest[0..16])?;
-    let mut output = vec![in heap; 0u32; n]?;
+    let seed = bytes(alloc, &rest[0..16])?;
+    let mut output = vec![in alloc; 0u32; n]?;
     Ok(derives_to(
         u8::try_from(*profile)?,
         &seed,
@@ -126,10 +128,10 @@ fn check_derived(heap: Global, numbers: &[u32]) -> anyhow::Result<bool>
 }
 
 fn check_rounded(numbers: &[u32]) -> anyhow::Result<bool>
-    ensures { IfOk result (λ holds. holds ≡ true → RoundedHolds numbers.now) }
+    ensures { IfOk result (λ holds. IsTrue holds ↔ RoundedHolds numbers.now) }
 {
     let [profile, x, y, t] = numbers else {
-        return Err(MALFORMED.into());
+        bail!(MALFORMED);
     };
     let profile = u8::try_from(*profile)?;
     Ok(
@@ -139,32 +141,32 @@ fn check_rounded(numbers: &[u32]) -> anyhow::Result<bool>
 }
 
 fn check_reconciled(numbers: &[u32]) -> anyhow::Result<bool>
-    ensures { IfOk result (λ holds. holds ≡ true → ReconciledHolds numbers.now) }
+    ensures { IfOk result (λ holds. IsTrue holds ↔ ReconciledHolds numbers.now) }
 {
     let [profile, x, coin, signal, bit] = numbers else {
-        return Err(MALFORMED.into());
+        bail!(MALFORMED);
     };
     let answer = exported_reconcile(u8::try_from(*profile)?, *x, u8::try_from(*coin)?);
     Ok(answer == 2 * u64::from(*signal) + u64::from(*bit))
 }
 
 fn check_read(numbers: &[u32]) -> anyhow::Result<bool>
-    ensures { IfOk result (λ holds. holds ≡ true → ReadHolds numbers.now) }
+    ensures { IfOk result (λ holds. IsTrue holds ↔ ReadHolds numbers.now) }
 {
     let [profile, y, signal, bit] = numbers else {
-        return Err(MALFORMED.into());
+        bail!(MALFORMED);
     };
     let answer = exported_read(u8::try_from(*profile)?, *y, u8::try_from(*signal)?);
     Ok(answer == u64::from(*bit))
 }
 
-pub fn check(heap: Global, group: Group, numbers: &[u32]) -> anyhow::Result<bool>
+pub fn check(alloc: Global, group: Group, numbers: &[u32]) -> anyhow::Result<bool>
     ensures { IfOk result (λ holds. holds ≡ true → Holds group numbers.now) }
 {
     match group {
-        Group::Published | Group::Output => check_output(heap, numbers),
-        Group::Product => check_product(heap, numbers),
-        Group::Derived => check_derived(heap, numbers),
+        Group::Published | Group::Output => check_output(alloc, numbers),
+        Group::Product => check_product(alloc, numbers),
+        Group::Derived => check_derived(alloc, numbers),
         Group::Rounded => check_rounded(numbers),
         Group::Reconciled => check_reconciled(numbers),
         Group::Read => check_read(numbers),

@@ -1,10 +1,12 @@
 // Bytes in hexadecimal.
-ghost use Rattle.std.specs.Prelude.{◌<◌, IfOk};
+ghost use Rattle.std.specs.Prelude.{◌≡◌, ◌+◌, ◌<◌, ◌≤◌, IfOk};
 
 use anyhow::anyhow;
 
 fn digit(text: u8) -> anyhow::Result<u32>
-    ensures { IfOk result (λ d. d < 16) }
+    ensures below { IfOk result (λ d. d < 16) }
+    ensures decimal { IfOk result (λ d. d < 10 → text ≡ 48 + d) }
+    ensures letter { IfOk result (λ d. 10 ≤ d → text ≡ 87 + d) }
 {
     match text {
         b'0'..=b'9' => Ok(u32::from(text - b'0')),

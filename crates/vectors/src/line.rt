@@ -40,9 +40,9 @@ fn group_of(word: &str) -> anyhow::Result<Group> {
 }
 
 // The counts and the bytes of a message and an output that are written in hexadecimal.
-fn hex_numbers(heap: Global, message: &str, output: &str) -> anyhow::Result<Vec<u32>> {
-    let mut bytes = Vec::new(heap);
-    let mut numbers = Vec::new(heap);
+fn hex_numbers(alloc: Global, message: &str, output: &str) -> anyhow::Result<Vec<u32>> {
+    let mut bytes = Vec::new(alloc);
+    let mut numbers = Vec::new(alloc);
     push_bytes(&mut bytes, message)?;
     numbers.push(u32::try_from(bytes.len())?)?;
     let first = bytes.len();
@@ -54,7 +54,7 @@ fn hex_numbers(heap: Global, message: &str, output: &str) -> anyhow::Result<Vec<
     Ok(numbers)
 }
 
-pub fn read_line(heap: Global, text: &str) -> anyhow::Result<Line> {
+pub fn read_line(alloc: Global, text: &str) -> anyhow::Result<Line> {
     let mut words = text.split_whitespace();
     let Some(first) = words.next() else {
         return Ok(Line::Comment);
@@ -66,9 +66,9 @@ pub fn read_line(heap: Global, text: &str) -> anyhow::Result<Line> {
     if group == Group::Published {
         let message = words.next().context("a message is missing")?;
         let output = words.next().context("an output is missing")?;
-        return Ok(Line::Vector(group, hex_numbers(heap, message, output)?));
+        return Ok(Line::Vector(group, hex_numbers(alloc, message, output)?));
     }
-    let mut numbers = Vec::new(heap);
+    let mut numbers = Vec::new(alloc);
     for word in words {
         numbers.push(word.parse::<u32>()?)?;
     }

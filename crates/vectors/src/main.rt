@@ -1,5 +1,5 @@
-// Checks outside vectors, one to a line of the input, and prints for each group how many there were. The first that does not
-// hold ends the program with an error.
+// Checks outside vectors, one to a line of the input, and prints for each group how many there were.
+// The first that does not hold ends the program with an error.
 #![tactic(auto)]
 
 mod checks;
@@ -37,7 +37,7 @@ impl Counts {
         *count = count.saturating_add(1);
     }
 
-    fn print(&self, rt: &HostRuntime) -> anyhow::Result<()> {
+    fn print(&self, rt: &impl Print) -> anyhow::Result<()> {
         println!(rt; "SHAKE128, published vectors: {}", self.published)?;
         println!(rt; "SHAKE128, at the edges of blocks: {}", self.outputs)?;
         println!(rt; "products, by both multipliers: {}", self.products)?;
@@ -49,15 +49,15 @@ impl Counts {
     }
 }
 
-fn run(rt: &HostRuntime) -> anyhow::Result<()> {
-    let heap = rt.alloc();
+fn run(rt: &(impl Input + Print + AllocGlobal)) -> anyhow::Result<()> {
+    let alloc = rt.alloc();
     let mut counts = Counts::default();
-    for text in BufReader::new(heap, rt.stdin())?.lines(heap) {
+    for text in BufReader::new(alloc, rt.reader())?.lines(alloc) {
         let text = text?;
-        match read_line(heap, text.as_str())? {
+        match read_line(alloc, text.as_str())? {
             Line::Comment => {}
             Line::Vector(group, numbers) => {
-                if !check(heap, group, numbers.as_slice())? {
+                if !check(alloc, group, numbers.as_slice())? {
                     return Err(anyhow!("a vector does not hold"));
                 }
                 counts.add(group);

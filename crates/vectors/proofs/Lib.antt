@@ -1,2 +1,0 @@
-pub mod Accepted
-pub mod Parts
