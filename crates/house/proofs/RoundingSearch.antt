@@ -6,7 +6,8 @@ use Rattle.std.proofs.lemmas.Bool.{cases_lt, cases_order}
 use Rattle.house.specs.Rounding.{recover, round, distance, IsRounded}
 use Rattle.house.specs.LawProofs.Classes.{lowered, lowered_class, above_class, class_apart}
 use Rattle.house.specs.LawProofs.Floors.{floor_grows}
-use Rattle.house.specs.LawProofs.Roundings.{recover_is, recover_up, recover_step, round_is}
+use Rattle.house.specs.LawProofs.Roundings.{recover_is, recover_up, recover_step}
+use Rattle.house.proofs.Smallest.{round_is}
 
 module _ (q p step : ℕ) (parts : 0 < p) (less : p < q) (either : (step ≡ 1) ⊎ (step ≡ 2)) where
   -- y is rounded from x where each smaller value of the class is farther, and no larger one is nearer

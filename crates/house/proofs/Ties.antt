@@ -5,7 +5,8 @@ use Rattle.std.proofs.Math.Nat.{add-mod_right}
 use Rattle.std.proofs.lemmas.Bool.{cases_lt}
 use Rattle.house.specs.Rounding.{round, Tied, Midway}
 use Rattle.house.specs.LawProofs.Classes.{class_apart}
-use Rattle.house.specs.LawProofs.Roundings.{recover_up, recover_step, round_is}
+use Rattle.house.specs.LawProofs.Roundings.{recover_up, recover_step}
+use Rattle.house.proofs.Smallest.{round_is}
 
 module _ (q p step : ℕ) (parts : 0 < p) (less : p < q) (either : (step ≡ 1) ⊎ (step ≡ 2)) where
   module _ (x : ℕ) where

@@ -16,6 +16,13 @@ pub trait NumberSet {
 
     type Secret: SecretPlace;
 
+    // The sizes, as a call gives them.
+    fn stated() -> Sizes
+        ensures { result ≡ SIZES }
+    {
+        Self::SIZES
+    }
+
     ghost admissible: { Admissible SIZES };
 
     ghost secret_bounds: { Self.Secret.bounds ≡ bounds_of_sizes SIZES };

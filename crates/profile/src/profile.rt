@@ -21,6 +21,13 @@ pub trait Profile {
 
     ghost functions: { Functions };
 
+    // The numbers, as a call gives them.
+    fn stated() -> Numbers
+        ensures { result ≡ NUMBERS }
+    {
+        Self::NUMBERS
+    }
+
     // The rounded value of a residue.
     fn round(x: u32) -> Result<u32, Fault>
         ensures { result ≡ round_answer NUMBERS functions x };

@@ -30,6 +30,13 @@ pub trait Reconciler {
 
     ghost meaning: { Reconciliation };
 
+    // The numbers, as a call gives them.
+    fn stated() -> ReconcilerNumbers
+        ensures { result ≡ NUMBERS }
+    {
+        Self::NUMBERS
+    }
+
     // The signal and the key bit of a residue and a coin.
     fn reconcile(q: Modulus, x: u32, coin: u8) -> Result<(u8, u8), Fault>
         ensures { result ≡ reconciled q.q NUMBERS.coins (meaning.signal q.q) (meaning.key_bit q.q) x coin };

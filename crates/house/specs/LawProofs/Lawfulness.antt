@@ -3,7 +3,7 @@ use Rattle.std.proofs.Common.{⊎_elim, sym, ap, ◌∙◌, mul-add, mul_left_co
 use Rattle.std.specs.Prelude.{◌≡◌, ◌+◌, ◌-◌, ◌*◌, ◌/◌, ◌^◌, ◌<◌, ◌≤◌}
 use Rattle.std.proofs.lemmas.Nat.{pow_pos}
 use Rattle.profile.specs.Laws.{InRange, Lawful}
-use Rattle.house.specs.LawProofs.Roundings.{recover_range, round_is, round_near}
+use Rattle.house.specs.LawProofs.Roundings.{recover_range, round_within, round_near}
 use Rattle.house.specs.House.{house_numbers, house_functions}
 use Rattle.house.specs.NumberSets.{Admissible}
 use Rattle.reconcile.specs.Reconcilers.{Reconciliation, Sound, Reconciles, tolerance}
@@ -55,7 +55,7 @@ module _ (s : Sizes) (k : ReconcilerNumbers) (f : Reconciliation) (admits : Admi
     signal_range = reconciles.signal_range;
     bit_range = reconciles.bit_range;
     read_range = reconciles.read_range;
-    round_range = λ x h. (round_is s.q s.p k.step p_positive admits.p_below sound.small.step_is x).range;
+    round_range = λ x h. round_within s.q s.p k.step p_positive admits.p_below sound.small.step_is x;
     round_near = round_near s.q s.p k.step p_positive admits.p_below sound.small.step_is s.rounding admits.rounding_reaches;
     reads_within = reconciles.reads_within;
     balanced = reconciles.balanced;

@@ -1,34 +1,24 @@
--- Recovering and rounding: what they are, which value is the rounded one, and how far rounding moves a residue.
+-- Recovering and rounding: what is recovered, that a rounded value is a nearest one, and how far rounding moves a residue.
 use Rattle.std.specs.Prelude.{◌≡◌, ℕ, zero, suc, ◌+◌, ◌-◌, ◌*◌, ◌/◌, ◌%◌, ◌<◌, ◌≤◌, ◌⊎◌, pos, ◌-ℤ◌, nat_lt, unsigned_abs}
 use Rattle.std.proofs.Common.{⊎_elim, sym, ap, subst, ◌∙◌, le_refl, mod-lt, mod-eq_of_lt, mul-le-mul_left, mul-le-mul_right, arith}
 use Rattle.std.proofs.Math.Nat.{mod-le, mod-mod, mod-eq-sub-mod, add-mod_right, add-mul-mod_self_left, mul-div_right}
 use Rattle.std.proofs.lemmas.Int.{ints}
-use Rattle.std.proofs.lemmas.Bool.{cases_lt, cond_both}
+use Rattle.std.proofs.lemmas.Bool.{cases_lt}
 use Rattle.std.proofs.lemmas.Bool.Decides.{nat_tests}
 use Rattle.profile.specs.Laws.{MultipleWithin}
-use Rattle.house.specs.Rounding.{recover, candidate, round, argmin, distance, IsRecovered, IsRounded}
+use Rattle.house.specs.Rounding.{recover, candidate, round, argmin, distance, IsRecovered}
 use Rattle.house.specs.LawProofs.Classes.{by_step, next_class, next_least, distance_multiple, multiple_below, place_is, place_up, place_within}
 use Rattle.house.specs.LawProofs.Floors.{floor_grows, floor_gap, floor_most}
 
--- ---- the first place of the least
+-- ---- a place of the least
 
 pub argmin_le : (cost : ℕ → ℕ) (last : ℕ) → argmin cost last ≤ last
 argmin_le cost zero = le_refl 0
-argmin_le cost (suc last) =
-    let before = argmin_le cost last in
-    cond_both (nat_lt (cost (suc last)) (cost (argmin cost last))) (suc last) (argmin cost last) (λ i. i ≤ suc last) (λ _. omega arith) (λ _. omega arith)
+argmin_le cost (suc last) = let before = argmin_le cost last in grind arith
 
 pub argmin_least : (cost : ℕ → ℕ) (last i : ℕ) → i ≤ last → cost (argmin cost last) ≤ cost i
 argmin_least cost zero i h = grind arith
 argmin_least cost (suc last) i h = let before = argmin_least cost last i in grind (arith, nat_tests)
-
-pub argmin_first : (cost : ℕ → ℕ) (last i : ℕ) → i ≤ last → cost i ≡ cost (argmin cost last) → argmin cost last ≤ i
-argmin_first cost zero i h e = omega arith
-argmin_first cost (suc last) i h e =
-    let least = argmin_least cost last i in
-    let before = argmin_first cost last i in
-    let within = argmin_le cost last in
-    grind (arith, nat_tests)
 
 -- ---- what is recovered
 
@@ -62,23 +52,27 @@ module _ (q p step : ℕ) (parts : 0 < p) (less : p < q) (either : (step ≡ 1) 
   recover_step y z h =
       omega (arith, recover_most y, floor_grows q p parts less y step z h, (recover_is z).above)
 
-  -- ---- what is rounded
+  -- ---- what is rounded: a value of the class in 0 .. p, and none of those recovers nearer
 
-  pub round_is : (x : ℕ) → IsRounded q p step x (round q p step x)
-  round_is x =
+  pub round_within : (x : ℕ) → round q p step x ≤ p
+  round_within x =
       let cost : ℕ → ℕ = λ i. distance (recover q p step (candidate step x i)) x in
       let last = (p - x % step) / step in
-      let first = argmin cost last in
-      let place : ℕ → ℕ = λ z. (z - x % step) / step in
-      let at : (z : ℕ) → z % step ≡ x % step → z ≡ candidate step x (place z) = place_is step either x in
-      record {
-        range = place_within step either x p first parts (argmin_le cost last);
-        class = add-mul-mod_self_left (x % step) step first ∙ mod-mod x step;
-        nearest = λ z h e. subst (λ n. cost first ≤ distance (recover q p step n) x) (sym (at z e)) (argmin_least cost last (place z) (place_up step either x z p h));
-        smallest = λ z h e tie.
-            let before = argmin_first cost last (place z) (place_up step either x z p h) (subst (λ n. distance (recover q p step n) x ≡ cost first) (at z e) tie) in
-            omega (arith, at z e, mul-le-mul_left step before);
-      }
+      place_within step either x p (argmin cost last) parts (argmin_le cost last)
+
+  pub round_class : (x : ℕ) → round q p step x % step ≡ x % step
+  round_class x =
+      let cost : ℕ → ℕ = λ i. distance (recover q p step (candidate step x i)) x in
+      let last = (p - x % step) / step in
+      add-mul-mod_self_left (x % step) step (argmin cost last) ∙ mod-mod x step
+
+  pub round_nearest : (x z : ℕ) → z ≤ p → z % step ≡ x % step → distance (recover q p step (round q p step x)) x ≤ distance (recover q p step z) x
+  round_nearest x z h e =
+      let cost : ℕ → ℕ = λ i. distance (recover q p step (candidate step x i)) x in
+      let last = (p - x % step) / step in
+      let place = (z - x % step) / step in
+      let is : z ≡ candidate step x place = place_is step either x z e in
+      subst (λ n. cost (argmin cost last) ≤ distance (recover q p step n) x) (sym is) (argmin_least cost last place (place_up step either x z p h))
 
   -- how far rounding moves a residue, where the floor grows by at most 2 rho + 1
   module _ (rho : ℕ) (gap : q ≤ p * (2 * rho + 1)) (x : ℕ) (below : x < q) where
@@ -86,52 +80,54 @@ module _ (q p step : ℕ) (parts : 0 < p) (less : p < q) (either : (step ≡ 1) 
     neighbours y z h =
         omega (arith, recover_most z, floor_gap q p parts less (2 * rho + 1) gap y step z h, (recover_is y).above)
 
-    near_below : (y : ℕ) → IsRounded q p step x y → recover q p step y ≤ x → x < recover q p step y + step * rho + step
-    near_below y h under = ⊎_elim at_end inside (cases_lt p (y + step))
-      where
-        at_end : p < y + step → x < recover q p step y + step * rho + step
-        at_end l =
-            let k = p - y in
-            let range = h.range in
-            let whole = mul-div_right q parts in
-            let ends = floor_gap q p parts less (2 * rho + 1) gap y k p (omega arith) in
-            let small = mul-le-mul_right {m = k + 1} {n = step} (2 * rho + 1) (omega arith) in
-            let two = mul-le-mul_right {m = step} {n = 2} rho (omega arith) in
-            omega (arith, (recover_is y).above)
+    -- y is a nearest value of the class of x
+    module _ (y : ℕ) (range : y ≤ p) (class : y % step ≡ x % step) (nearest : (z : ℕ) → z ≤ p → z % step ≡ x % step → distance (recover q p step y) x ≤ distance (recover q p step z) x) where
+      near_below : recover q p step y ≤ x → x < recover q p step y + step * rho + step
+      near_below under = ⊎_elim at_end inside (cases_lt p (y + step))
+        where
+          at_end : p < y + step → x < recover q p step y + step * rho + step
+          at_end l =
+              let k = p - y in
+              let whole = mul-div_right q parts in
+              let ends = floor_gap q p parts less (2 * rho + 1) gap y k p (omega arith) in
+              let small = mul-le-mul_right {m = k + 1} {n = step} (2 * rho + 1) (omega arith) in
+              let two = mul-le-mul_right {m = step} {n = 2} rho (omega arith) in
+              omega (arith, (recover_is y).above)
 
-        inside : y + step ≤ p → x < recover q p step y + step * rho + step
-        inside l =
-            let next = h.nearest (y + step) l (add-mod_right y step ∙ h.class) in
-            let strict = recover_step y (y + step) (le_refl _) in
-            omega (arith, neighbours y (y + step) (le_refl _))
+          inside : y + step ≤ p → x < recover q p step y + step * rho + step
+          inside l =
+              let next = nearest (y + step) l (add-mod_right y step ∙ class) in
+              let strict = recover_step y (y + step) (le_refl _) in
+              omega (arith, neighbours y (y + step) (le_refl _))
 
-    near_above : (y : ℕ) → IsRounded q p step x y → x < recover q p step y → recover q p step y < x + step * rho + step
-    near_above y h over = ⊎_elim at_start inside (cases_lt y step)
-      where
-        at_start : y < step → recover q p step y < x + step * rho + step
-        at_start l =
-            let starts = floor_gap q p parts less (2 * rho + 1) gap 0 y y (omega arith) in
-            let small = mul-le-mul_right {m = y + 1} {n = step} rho (omega arith) in
-            let two = mul-le-mul_right {m = step} {n = 2} rho (omega arith) in
-            let first : y ≤ x = omega (arith, mod-eq_of_lt l, h.class, mod-le x step) in
-            omega (arith, recover_most y)
+      near_above : x < recover q p step y → recover q p step y < x + step * rho + step
+      near_above over = ⊎_elim at_start inside (cases_lt y step)
+        where
+          at_start : y < step → recover q p step y < x + step * rho + step
+          at_start l =
+              let starts = floor_gap q p parts less (2 * rho + 1) gap 0 y y (omega arith) in
+              let small = mul-le-mul_right {m = y + 1} {n = step} rho (omega arith) in
+              let two = mul-le-mul_right {m = step} {n = 2} rho (omega arith) in
+              let first : y ≤ x = omega (arith, mod-eq_of_lt l, class, mod-le x step) in
+              omega (arith, recover_most y)
 
-        inside : step ≤ y → recover q p step y < x + step * rho + step
-        inside l =
-            let low = y - step in
-            let range = h.range in
-            let next = h.nearest low (omega arith) (sym (mod-eq-sub-mod l) ∙ h.class) in
-            let strict = recover_step low y (omega arith) in
-            omega (arith, neighbours low y (omega arith))
+          inside : step ≤ y → recover q p step y < x + step * rho + step
+          inside l =
+              let low = y - step in
+              let next = nearest low (omega arith) (sym (mod-eq-sub-mod l) ∙ class) in
+              let strict = recover_step low y (omega arith) in
+              omega (arith, neighbours low y (omega arith))
+
+      nearest_near : distance (recover q p step y) x < step * rho + step
+      nearest_near = ⊎_elim (λ l. omega (arith, near_above l)) (λ l. omega (arith, near_below l)) (cases_lt x (recover q p step y))
 
     pub round_near : MultipleWithin step (step * rho) (pos (recover q p step (round q p step x)) -ℤ pos x)
     round_near =
         let y = round q p step x in
         let t = recover q p step y in
-        let is = round_is x in
         let size : unsigned_abs (pos t -ℤ pos x) ≡ distance t x = omega (arith, ints) in
-        let multiple = distance_multiple step either t x ((recover_is y).class ∙ is.class) in
-        let near : distance t x < step * rho + step = ⊎_elim (λ l. omega (arith, near_above y is l)) (λ l. omega (arith, near_below y is l)) (cases_lt x t) in
+        let multiple = distance_multiple step either t x ((recover_is y).class ∙ round_class x) in
+        let near = nearest_near y (round_within x) (round_class x) (round_nearest x) in
         record {
           multiple = ap (λ n. n % step) size ∙ multiple;
           size = omega (arith, multiple_below step either (distance t x) rho multiple near);

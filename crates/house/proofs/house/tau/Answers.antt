@@ -11,5 +11,5 @@ overflow_mul-formula g c =
     let times_most : times ≤ 16 =
     omega (arith, ap (λ (k : ReconcilerNumbers). k.tolerance.times) c.NUMBERS.ensures, g.met.K.Reconciler.sound.small.times_most) in
     let q_most : q ≤ 2 ^ 23 =
-    omega (arith, ap (λ (s : Sizes). s.q) c.SIZES.ensures, g.S.NumberSet.admissible.modulus.below) in
+    omega (arith, ap (λ (s : Sizes). s.q) c.SIZES.ensures, g.met.S.NumberSet.admissible.modulus.below) in
     omega (arith, mul-le times q 16 (2 ^ 23) times_most q_most)

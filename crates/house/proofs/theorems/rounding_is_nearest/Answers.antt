@@ -1,4 +1,5 @@
-use Rattle.house.specs.LawProofs.Roundings.{recover_is, round_is}
+use Rattle.house.specs.LawProofs.Roundings.{recover_is}
+use Rattle.house.proofs.Smallest.{round_is}
 use Rattle.house.proofs.theorems.rounding_is_nearest.Goals as goal
 
 pub returns : goal.returns
