@@ -13,7 +13,8 @@ import re
 import sys
 
 HYPHENED = r"[A-Za-z0-9_'][\w']*(?:-[\w']+)+"
-DECLARATIONS = re.compile(rf"^\s*(?:abbrev\s+)?(?:pub\s+)?({HYPHENED})\s*:", re.M)
+DECLARED = r"^\s*(?:(?:abbrev|unfoldable|pub)\s+)*"
+DECLARATIONS = re.compile(rf"{DECLARED}({HYPHENED})\s*:", re.M)
 ALIASES = re.compile(rf"\bas\s+({HYPHENED})\s*[,}}]")
 PARAMETERS = re.compile(r"[({]((?:[\w'-]+\s+)*[\w'-]+)\s*:\s")
 TOKEN = re.compile(rf'"(?:\\.|[^"\\])*"|(?<![\w\'.-])(?:\w[\w\']*\.)*{HYPHENED}(?:\.{HYPHENED}|\.\w+)*(?![\w\'-])')
@@ -31,6 +32,12 @@ def aliases(text):
     return {name for line in re.findall(r"^ghost use .*", text, re.M) for name in ALIASES.findall(line)}
 
 
+def of_the_kit(text, crates):
+    """The names that imports take from a crate that is not the repository's."""
+    imports = re.findall(r"^(?:ghost )?use (?:Rattle\.)?(\w+)[\w.]*\.\{([^}]*)\}", text, re.M)
+    return {name for crate, names in imports if not (crates / crate).is_dir() for name in re.findall(HYPHENED, names)}
+
+
 def respelled(text, names):
     def word(match):
         token = match[0]
@@ -46,12 +53,13 @@ def main():
     files = [f for f in sorted(crates.rglob("*")) if f.suffix in (".rt", ".antt", ".edit") and "out" not in f.relative_to(crates).parts]
     texts = {f: f.read_text() for f in files}
     names = set().union(*(declared(t) if f.suffix == ".antt" else aliases(t) for f, t in texts.items()))
+    names -= set().union(*(of_the_kit(t, crates) for t in texts.values()))
     clashes = [
         (f, name)
         for f, t in texts.items()
         if f.suffix == ".antt"
         for name in declared(t)
-        if re.search(rf"^\s*(?:abbrev\s+)?(?:pub\s+)?{re.escape(name.replace('-', '_'))}\s*:", t, re.M)
+        if re.search(rf"{DECLARED}{re.escape(name.replace('-', '_'))}\s*:", t, re.M)
     ]
     for f, name in clashes:
         print(f"{f}: {name} and {name.replace('-', '_')} are both declared")

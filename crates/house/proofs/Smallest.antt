@@ -6,7 +6,7 @@ use Rattle.house.specs.Rounding.{recover, candidate, round, argmin, distance, Is
 use Rattle.house.specs.LawProofs.Classes.{place_is, place_up}
 use Rattle.house.specs.LawProofs.Roundings.{argmin_le, argmin_least, round_within, round_class, round_nearest}
 
-argmin_first : (cost : ℕ → ℕ) (last i : ℕ) → i ≤ last → cost i ≡ cost (argmin cost last) → argmin cost last ≤ i
+pub argmin_first : (cost : ℕ → ℕ) (last i : ℕ) → i ≤ last → cost i ≡ cost (argmin cost last) → argmin cost last ≤ i
 argmin_first cost zero i h e = omega arith
 argmin_first cost (suc last) i h e =
     let least = argmin_least cost last i in

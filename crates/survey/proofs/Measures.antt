@@ -15,9 +15,9 @@ use Rattle.survey.specs.declared.rounding.RoundingSurvey.{RoundingSurvey}
 last_or_below : (n x : ℕ) → x < n + 1 → (x ≡ n) ⊎ (x < n)
 last_or_below n x h = ⊎_elim inr (λ le. inl (omega arith)) (cases_lt x n)
 
-module _ (k : Numbers) (f : Functions) (x y t : ℕ) (y-is : y ≡ f.round x) (t-is : t ≡ f.recover y) where
+module _ (k : Numbers) (f : Functions) (x y t : ℕ) (y_is : y ≡ f.round x) (t_is : t ≡ f.recover y) where
   pub distance_is : pos t -ℤ pos x ≡ distance f x
-  distance_is = ap (λ n. pos n -ℤ pos x) (t-is ∙ ap f.recover y-is)
+  distance_is = ap (λ n. pos n -ℤ pos x) (t_is ∙ ap f.recover y_is)
 
   -- the next value of the class is there, and recovers to u
   pub tie_next : (u : ℕ) → u ≡ f.recover (y + k.step) → y + k.step ≤ k.p → eqb (t + u) (2 * x) ≡ tie k f x
@@ -28,7 +28,7 @@ module _ (k : Numbers) (f : Functions) (x y t : ℕ) (y-is : y ≡ f.round x) (t
   -- there is no next value
   pub tie_last : k.p < y + k.step → false ≡ tie k f x
   tie_last none =
-      sym (and_left _ _ (ap (λ n. leb (n + k.step) k.p) (sym y-is) ∙ lt-leb (y + k.step) k.p none))
+      sym (and_left _ _ (ap (λ n. leb (n + k.step) k.p) (sym y_is) ∙ lt-leb (y + k.step) k.p none))
 
 -- what is recovered stays below 2^24
 pub recovered_below : (k : Numbers) (f : Functions) → Lawful k f → (y t : ℕ) → recover_answer k f y ≡ Ok t → t < 2 ^ 24
