@@ -1,9 +1,9 @@
 -- The residue of an integer near 0 .. q - 1, and what the signed form is.
-use Rattle.std.proofs.Common.{◌≡◌, ℕ, ◌+◌, ◌-◌, ◌/◌, ◌%◌, ◌<◌, ◌≤◌, leb, ℤ, pos, negsuc, ◌-ℤ◌, Ok, ap, ◌∙◌, mod-lt, mod-eq_of_lt, arith}
+use Rattle.std.proofs.Common.{◌≡◌, ℕ, ◌+◌, ◌-◌, ◌/◌, ◌%◌, ◌<◌, ◌≤◌, leb, ℤ, pos, negsuc, ◌-ℤ◌, ap, ◌∙◌, mod-lt, mod-eq_of_lt, arith}
 use native.Mathlib.Nat.{add-mod_right}
 use Rattle.std.proofs.lemmas.Int.{ints}
 use Rattle.std.proofs.lemmas.Bool.{cond-true, cond-false, le-leb, lt-leb}
-use Rattle.ring.specs.Residues.{residue, signed, IsSignedForm}
+use Rattle.ring.specs.Residues.{residue, signed}
 
 pub residue_below : (q : ℕ) (z : ℤ) → 0 < q → residue q z < q
 residue_below q (pos n) h = mod-lt n h
@@ -26,9 +26,3 @@ module _ (q x : ℕ) (odd : q % 2 ≡ 1) (h : x < q) where
   pub signed_high : (q - 1) / 2 < x → signed q x ≡ negsuc (q - 1 - x)
   signed_high high =
       cond-false (leb x ((q - 1) / 2)) (pos x) (pos x -ℤ pos q) (lt-leb x ((q - 1) / 2) high) ∙ omega (arith, ints)
-
-  pub signed_low_form : x ≤ (q - 1) / 2 → IsSignedForm q x (Ok (pos x))
-  signed_low_form low = (residue_pos q x h, omega arith)
-
-  pub signed_high_form : (q - 1) / 2 < x → IsSignedForm q x (Ok (negsuc (q - 1 - x)))
-  signed_high_form high = (residue_negsuc q (q - 1 - x) (omega arith) ∙ omega arith, omega arith)
