@@ -1,41 +1,29 @@
--- How far a list keeps within a bound: one step on, at the end, and what a front that is the whole list says.
-use Rattle.std.proofs.Common.{◌≡◌, ℕ, suc, ◌+◌, ◌<◌, ◌≤◌, eqb, leb, List, [], ◌∷◌, length, get_or, take, drop, ℤ, pos, nat_abs, sum_by, sym, refl, ◌∙◌, subst, ⊎_elim, add-one, one-add, arith}
+-- How far a list keeps within a bound: one step of the running sum, what a front that is the whole list says, and what one that ends before it.
+use Rattle.std.proofs.Common.{◌≡◌, ℕ, suc, ◌+◌, ◌<◌, ◌≤◌, eqb, leb, List, [], ◌∷◌, length, get_or, take, drop, length-take, ℤ, pos, nat_abs, sum_by, sym, refl, ◌∙◌, subst, ⊎_elim, add-one, one-add, arith}
 use Rattle.std.specs.Prelude.{All}
-use Rattle.std.proofs.lemmas.List.Elements.{All-nil, All-cons}
-use Rattle.std.proofs.lemmas.List.{at_drop_more, at_drop_all}
-use Rattle.std.proofs.lemmas.List.Sums.{sum_by-cons}
+use Rattle.std.proofs.lemmas.List.Elements.{All-from_get_or}
+use Rattle.std.proofs.lemmas.List.{at_drop_more, at_drop_all, get_or-take}
+use Rattle.std.proofs.lemmas.List.Sums.{sum_by-cons, prefix_len_passes, prefix_len_stops}
 use Rattle.std.proofs.lemmas.Bool.{cases_Bool, cond-true, cond-false, cond_both, le-leb, lt-leb, leb-true, leb-false, eqb-true, eqb-false}
-use Rattle.profile.specs.Secrets.{Bounds, FillMeans, FirstBeyond, FirstPast, fill_answer, front_within, front_summing}
+use Rattle.profile.specs.Secrets.{Bounds, FillMeans, FirstBeyond, FirstPast, LawfulSecret, fill_answer, front_within, front_summing}
 
-module _ (xs : List ℤ) (i : ℕ) where
-  pub within_more : (e : ℕ) → i < length xs → nat_abs (get_or xs i (pos 0)) ≤ e → front_within e (drop i xs) ≡ 1 + front_within e (drop (i + 1) xs)
-  within_more e h fits = at_drop_more (front_within e) xs i (pos 0) h ∙ cond-true _ _ _ (le-leb _ _ fits)
+module _ (xs : List ℤ) (i sum l : ℕ) where
+  pub summing_more : i < length xs → sum + nat_abs (get_or xs i (pos 0)) ≤ l → front_summing sum l (drop i xs) ≡ 1 + front_summing (sum + nat_abs (get_or xs i (pos 0))) l (drop (i + 1) xs)
+  summing_more h fits = at_drop_more (front_summing sum l) xs i (pos 0) h ∙ cond-true _ _ _ (le-leb _ _ fits)
 
-  pub within_stop : (e : ℕ) → i < length xs → e < nat_abs (get_or xs i (pos 0)) → front_within e (drop i xs) ≡ 0
-  within_stop e h over = at_drop_more (front_within e) xs i (pos 0) h ∙ cond-false _ _ _ (lt-leb _ _ over)
+  pub summing_stop : i < length xs → l < sum + nat_abs (get_or xs i (pos 0)) → front_summing sum l (drop i xs) ≡ 0
+  summing_stop h over = at_drop_more (front_summing sum l) xs i (pos 0) h ∙ cond-false _ _ _ (lt-leb _ _ over)
 
-  pub within_end : (e : ℕ) → length xs ≤ i → front_within e (drop i xs) ≡ 0
-  within_end e h = at_drop_all (front_within e) xs i h
+  pub summing_end : length xs ≤ i → front_summing sum l (drop i xs) ≡ 0
+  summing_end h = at_drop_all (front_summing sum l) xs i h
 
-  module _ (sum l : ℕ) where
-    pub summing_more : i < length xs → sum + nat_abs (get_or xs i (pos 0)) ≤ l → front_summing sum l (drop i xs) ≡ 1 + front_summing (sum + nat_abs (get_or xs i (pos 0))) l (drop (i + 1) xs)
-    summing_more h fits = at_drop_more (front_summing sum l) xs i (pos 0) h ∙ cond-true _ _ _ (le-leb _ _ fits)
+-- ---- a front that is the whole list
 
-    pub summing_stop : i < length xs → l < sum + nat_abs (get_or xs i (pos 0)) → front_summing sum l (drop i xs) ≡ 0
-    summing_stop h over = at_drop_more (front_summing sum l) xs i (pos 0) h ∙ cond-false _ _ _ (lt-leb _ _ over)
+all_within : (e : ℕ) (xs : List ℤ) → length xs ≤ front_within e xs → All (λ x. nat_abs x ≤ e) xs
+all_within e xs h =
+    All-from_get_or (λ x. nat_abs x ≤ e) xs (pos 0) (λ k lt. leb-true _ _ (prefix_len_passes (λ y. leb (nat_abs y) e) xs k (pos 0) (omega arith)))
 
-    pub summing_end : length xs ≤ i → front_summing sum l (drop i xs) ≡ 0
-    summing_end h = at_drop_all (front_summing sum l) xs i h
-
-pub all_within : (e : ℕ) (xs : List ℤ) → length xs ≤ front_within e xs → All (λ x. nat_abs x ≤ e) xs
-all_within e [] h = All-nil (λ x. nat_abs x ≤ e)
-all_within e (x ∷ xs) h =
-    ⊎_elim
-    (λ t. All-cons (λ y. nat_abs y ≤ e) x xs (leb-true _ _ t) (all_within e xs (omega (arith, cond-true (leb (nat_abs x) e) (1 + front_within e xs) 0 t))))
-    (λ f. absurd (omega (arith, cond-false (leb (nat_abs x) e) (1 + front_within e xs) 0 f)))
-    (cases_Bool (leb (nat_abs x) e))
-
-pub sum_within : (sum l : ℕ) (xs : List ℤ) → sum ≤ l → length xs ≤ front_summing sum l xs → sum + sum_by nat_abs xs ≤ l
+sum_within : (sum l : ℕ) (xs : List ℤ) → sum ≤ l → length xs ≤ front_summing sum l xs → sum + sum_by nat_abs xs ≤ l
 sum_within sum l [] start h = omega arith
 sum_within sum l (x ∷ xs) start h =
     let s = sum + nat_abs x in
@@ -45,20 +33,26 @@ sum_within sum l (x ∷ xs) start h =
     (λ f. absurd (omega (arith, cond-false (leb s l) (1 + front_summing s l xs) 0 f)))
     (cases_Bool (leb s l))
 
+-- a list of the right length that passes both tests
+pub lawful_within : (b : Bounds) (xs : List ℤ) → length xs ≡ b.n → b.n ≤ front_within b.e xs → b.n ≤ front_summing 0 b.l xs → LawfulSecret b xs
+lawful_within b xs long small light = record {
+  long = long;
+  small = all_within b.e xs (omega arith);
+  light = omega (arith, sum_within 0 b.l xs (omega arith) (omega arith));
+}
+
 -- ---- a front that ends within the list
 
 pub within_first : (e : ℕ) (xs : List ℤ) → front_within e xs < length xs → FirstBeyond e xs (front_within e xs)
-within_first e [] h = absurd (omega arith)
-within_first e (x ∷ xs) h =
-    ⊎_elim
-    (λ t.
-    let more : front_within e (x ∷ xs) ≡ suc (front_within e xs) = cond-true (leb (nat_abs x) e) (1 + front_within e xs) 0 t ∙ one-add (front_within e xs) in
-    let rest = within_first e xs (omega arith) in
-    subst (FirstBeyond e (x ∷ xs)) (sym more) (record { inside = omega (arith, rest.inside); before = All-cons (λ y. nat_abs y ≤ e) x (take (front_within e xs) xs) (leb-true _ _ t) rest.before; here = rest.here }))
-    (λ f.
-    let stop : front_within e (x ∷ xs) ≡ 0 = cond-false (leb (nat_abs x) e) (1 + front_within e xs) 0 f in
-    subst (FirstBeyond e (x ∷ xs)) (sym stop) (record { inside = omega arith; before = All-nil (λ y. nat_abs y ≤ e); here = leb-false _ _ f }))
-    (cases_Bool (leb (nat_abs x) e))
+within_first e xs h =
+    let i = front_within e xs in
+    record {
+      inside = h;
+      before = All-from_get_or (λ x. nat_abs x ≤ e) (take i xs) (pos 0) (λ k lt.
+          let inside : k < i = omega (arith, length-take i xs) in
+          rw (get_or-take i xs k (pos 0) inside) (leb-true _ _ (prefix_len_passes (λ y. leb (nat_abs y) e) xs k (pos 0) inside)));
+      here = leb-false _ _ (prefix_len_stops (λ y. leb (nat_abs y) e) xs (pos 0) h);
+    }
 
 -- i is where the sum, running on from `sum`, first passes l
 abbrev PastFrom : ℕ → ℕ → List ℤ → ℕ → Type 0
@@ -94,13 +88,8 @@ fill_means b xs =
     let long : length xs ≡ b.n = eqb-true _ _ same in
     cond_both (leb b.n (front_within b.e xs)) _ _ (FillMeans b xs)
     (λ inside.
-    let within = all_within b.e xs (omega (arith, leb-true _ _ inside)) in
     cond_both (leb b.n (front_summing 0 b.l xs)) _ _ (FillMeans b xs)
-    (λ fits. record {
-      long = long;
-      small = within;
-      light = omega (arith, sum_within 0 b.l xs (omega arith) (omega (arith, leb-true _ _ fits)));
-    })
-    (λ past. (long, within, summing_first b.l xs (omega (arith, leb-false _ _ past)))))
+    (λ fits. lawful_within b xs long (leb-true _ _ inside) (leb-true _ _ fits))
+    (λ past. (long, all_within b.e xs (omega (arith, leb-true _ _ inside)), summing_first b.l xs (omega (arith, leb-false _ _ past)))))
     (λ beyond. (long, within_first b.e xs (omega (arith, leb-false _ _ beyond)))))
     (λ other. (eqb-false _ _ other, refl))

@@ -1,10 +1,6 @@
 -- What a place with memory of its own holds.
 use Rattle.std.specs.Prelude.{ℕ, List, ℤ, Some, None, vec_items, Option, if◌then◌else◌}
-use Rattle.profile.specs.Secrets.{Bounds}
 use Rattle.profile.specs.declared.place.Place.{Place}
-
-abbrev pub place_bounds : ℕ → ℕ → ℕ → Bounds
-place_bounds n e l = record { n = n; e = e; l = l }
 
 abbrev pub place_held : {N E L : ℕ} → Place N E L → Option (List ℤ)
 place_held s = if s.filled then Some (vec_items s.coefficients) else None

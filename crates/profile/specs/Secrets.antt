@@ -16,6 +16,10 @@ pub record Bounds : Type 0 where
 abbrev pub bounds_of : Numbers → Bounds
 bounds_of k = record { n = k.n; e = k.e; l = k.l }
 
+-- what a place for n coefficients is made for
+abbrev pub place_bounds : ℕ → ℕ → ℕ → Bounds
+place_bounds n e l = record { n = n; e = e; l = l }
+
 pub record LawfulSecret (b : Bounds) (xs : List ℤ) : Type 0 where
   pub long : length xs ≡ b.n
   pub small : All (λ x. unsigned_abs x ≤ b.e) xs

@@ -1,5 +1,6 @@
 // What a secret place does.
-ghost use Rattle.profile.specs.Places.{place_bounds, place_held, place_memory};
+ghost use Rattle.profile.specs.Places.{place_held, place_memory};
+ghost use Rattle.profile.specs.Secrets.{place_bounds};
 
 use crate::place::Place;
 use crate::secret::SecretPlace;
@@ -40,11 +41,7 @@ impl<const N: usize, const E: u32, const L: u32> SecretPlace for Place<N, E, L> 
     }
 
     fn secret(&self) -> Option<&[i32]> {
-        if self.filled {
-            Some(self.coefficients.as_slice())
-        } else {
-            None
-        }
+        self.filled.then_some(self.coefficients.as_slice())
     }
 
     fn erase(&mut self) {

@@ -6,15 +6,14 @@ ghost use Rattle.profile.specs.Secrets.{front_within, front_summing};
 pub fn front_within(coefficients: &[i32], bound: u32) -> usize
     ensures { result ≡ front_within bound coefficients.now }
 {
-    for (i, c) in coefficients.iter().enumerate() {
-        if c.unsigned_abs() > bound {
-            return i;
-        }
-    }
-    coefficients.len()
+    coefficients
+        .iter()
+        .take_while(|c| c.unsigned_abs() <= bound)
+        .count()
 }
 
 // How many coefficients come before the one at which the running sum of sizes first passes `limit`.
+#[tactic(auto, using(crate::proofs::Fronts::summing_more, crate::proofs::Fronts::summing_stop, crate::proofs::Fronts::summing_end))]
 pub fn front_summing(coefficients: &[i32], limit: u32) -> usize
     ensures { result ≡ front_summing 0 limit coefficients.now }
 {
