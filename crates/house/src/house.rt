@@ -6,7 +6,7 @@ ghost use Rattle.house.specs.LawProofs.Lawfulness.{house_lawful};
 ghost use Rattle.std.proofs.Common.{rules};
 
 use crate::number_set::NumberSet;
-use crate::rounding;
+use crate::rounding::Rounding;
 use profile::{Numbers, Profile};
 use reconcile::Reconciler;
 use ring::{Fault, Modulus};
@@ -21,9 +21,20 @@ pub struct House<S, K> {
 fn modulus<S: NumberSet>() -> Modulus
     ensures { result.q ≡ S.SIZES.q }
 {
-    match Modulus::new(S::SIZES.q) {
-        Some(q) => q,
-        None => unreachable!(),
+    Modulus::new(S::SIZES.q).unwrap()
+}
+
+// Rounding by the numbers of the number set, in the steps of the reconciler.
+fn rounding<S: NumberSet, K: Reconciler>() -> Rounding
+    ensures q { result.q ≡ S.SIZES.q }
+    ensures p { result.p ≡ S.SIZES.p }
+    ensures step { result.step ≡ K.NUMBERS.step }
+{
+    let s = S::SIZES;
+    Rounding {
+        q: s.q,
+        p: s.p,
+        step: K::NUMBERS.step,
     }
 }
 
@@ -63,19 +74,17 @@ impl<S: NumberSet, K: Reconciler> Profile for House<S, K> {
     ghost secret_bounds = { Prim.search rules };
 
     fn round(x: u32) -> Result<u32, Fault> {
-        let s = S::SIZES;
-        if x >= s.q {
+        if x >= S::SIZES.q {
             return Err(Fault::OutOfRange(0));
         }
-        Ok(rounding::round(s.q, s.p, K::NUMBERS.step, x))
+        Ok(rounding::<S, K>().round(x))
     }
 
     fn recover(y: u32) -> Result<u32, Fault> {
-        let s = S::SIZES;
-        if y > s.p {
+        if y > S::SIZES.p {
             return Err(Fault::OutOfRange(0));
         }
-        Ok(rounding::recover(s.q, s.p, K::NUMBERS.step, y))
+        Ok(rounding::<S, K>().recover(y))
     }
 
     fn reconcile(x: u32, coin: u8) -> Result<(u8, u8), Fault> {

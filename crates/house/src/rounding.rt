@@ -1,55 +1,64 @@
 // House rounding: a residue below q goes to a value in 0 .. p of its own class modulo step, and back.
-ghost use Rattle.std.specs.Prelude.{◌≡◌, ◌+◌, ◌*◌, ◌/◌, ◌^◌, ◌<◌, ◌≤◌, ◌⊎◌};
+ghost use Rattle.std.specs.Prelude.{◌≡◌, ◌+◌, ◌*◌, ◌/◌, ◌^◌, ◌<◌, ◌≤◌};
 ghost use Rattle.house.specs.Rounding.{recover as recover_value, round as round_value};
 
-// The least integer at or above floor(y q / p) that differs from y by a multiple of step.
-pub(crate) fn recover(q: u32, p: u32, step: u32, y: u32) -> u32
-    requires parts { (0 < p) × (p < 2 ^ 15) }
-    requires modulus { (p < q) × (q < 2 ^ 23) }
-    requires one_or_two { (step ≡ 1) ⊎ (step ≡ 2) }
-    requires within { y ≤ p }
-    ensures { result ≡ recover_value q p step y }
-{
-    // floor(y q / p), in parts that fit 32 bits
-    let floor = y * (q / p) + y * (q % p) / p;
-    floor + (floor + y) % step
+// The numbers that residues are rounded by.
+#[derive(Clone, Copy)]
+pub(crate) struct Rounding {
+    pub(crate) q: u32,
+    pub(crate) p: u32,
+    pub(crate) step: u32,
+    ghost positive: { 0 < p },
+    ghost p_below: { p < 2 ^ 15 },
+    ghost less: { p < q },
+    ghost q_below: { q < 2 ^ 23 },
+    ghost step_least: { 1 ≤ step },
+    ghost step_most: { step ≤ 2 },
 }
 
-// The largest y with floor(y q / p) at most x, which is floor(((x + 1) p - 1) / q).
-fn last_at_most(q: u32, p: u32, x: u32) -> u32
-    requires parts { (0 < p) × (p < 2 ^ 15) }
-    requires modulus { (p < q) × (q < 2 ^ 23) }
-    requires within { x < q }
-    ensures at_most { result * q / p ≤ x }
-    ensures next_above { x < (result + 1) * q / p }
-{
-    // (x + 1) p does not fit 32 bits, but how far it falls short of (whole + 1) q does.
-    let gap = q / p;
-    let whole = x / gap;
-    let short = whole * (q % p) + (q - (x % gap + 1) * p);
-    whole - short / q
-}
+impl Rounding {
+    // The least integer at or above floor(y q / p) that differs from y by a multiple of step.
+    pub(crate) fn recover(self, y: u32) -> u32
+        requires { y ≤ self.p }
+        ensures { result ≡ recover_value self.q self.p self.step y }
+    {
+        // floor(y q / p), in parts that fit 32 bits
+        let floor = y * (self.q / self.p) + y * (self.q % self.p) / self.p;
+        floor + (floor + y) % self.step
+    }
 
-// The value in 0 .. p of the class of x that recovers nearest to x, the smaller at a tie.
-pub(crate) fn round(q: u32, p: u32, step: u32, x: u32) -> u32
-    requires parts { (0 < p) × (p < 2 ^ 15) }
-    requires modulus { (p < q) × (q < 2 ^ 23) }
-    requires one_or_two { (step ≡ 1) ⊎ (step ≡ 2) }
-    requires within { x < q }
-    ensures { result ≡ round_value q p step x }
-{
-    let last = last_at_most(q, p, x);
-    let over = (last + x) % step;
-    if last < over {
-        // The class has no value that recovers to x or below, and over is its first.
-        return over;
+    // The value in 0 .. p of the class of x that recovers nearest to x, the smaller at a tie.
+    pub(crate) fn round(self, x: u32) -> u32
+        requires { x < self.q }
+        ensures { result ≡ round_value self.q self.p self.step x }
+    {
+        let last = self.last_at_most(x);
+        let over = (last + x) % self.step;
+        if last < over {
+            // The class has no value that recovers to x or below, and over is its first.
+            return over;
+        }
+        let low = last - over;
+        let high = low + self.step;
+        if high > self.p {
+            return low;
+        }
+        let above = self.recover(high) - x;
+        let below = x - self.recover(low);
+        if above < below { high } else { low }
     }
-    let low = last - over;
-    let high = low + step;
-    if high > p {
-        return low;
+
+    #[tactic(auto, using(crate::specs::LawProofs::Floors::product_below, crate::specs::LawProofs::Floors::short_within, crate::specs::LawProofs::Floors::last_at_most, crate::specs::LawProofs::Floors::last_next_above))]
+    // The largest y with floor(y q / p) at most x, which is floor(((x + 1) p - 1) / q).
+    fn last_at_most(self, x: u32) -> u32
+        requires { x < self.q }
+        ensures at_most { result * self.q / self.p ≤ x }
+        ensures next_above { x < (result + 1) * self.q / self.p }
+    {
+        // (x + 1) p does not fit 32 bits, but how far it falls short of (whole + 1) q does.
+        let gap = self.q / self.p;
+        let whole = x / gap;
+        let short = whole * (self.q % self.p) + (self.q - (x % gap + 1) * self.p);
+        whole - short / self.q
     }
-    let above = recover(q, p, step, high) - x;
-    let below = x - recover(q, p, step, low);
-    if above < below { high } else { low }
 }

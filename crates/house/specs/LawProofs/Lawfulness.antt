@@ -10,15 +10,19 @@ use Rattle.reconcile.specs.Reconcilers.{Reconciliation, Sound, Reconciles, toler
 use Rattle.reconcile.specs.declared.reconciler.ReconcilerNumbers.{ReconcilerNumbers}
 use Rattle.house.specs.declared.sizes.Sizes.{Sizes}
 
-module _ (s : Sizes) (k : ReconcilerNumbers) (f : Reconciliation) (admits : Admissible s) (sound : Sound k f) where
-  reconciles : Reconciles k f s.q
-  reconciles = sound.at s.q admits.modulus
-
+module _ (s : Sizes) (admits : Admissible s) where
   pub p_positive : 0 < s.p
   p_positive = omega (arith, admits.p_is, pow_mono admits.w_least)
 
   pub p_small : s.p < 2 ^ 15
   p_small = omega (arith, admits.p_is, pow_mono admits.w_most, pow_pos s.w)
+
+module _ (s : Sizes) (k : ReconcilerNumbers) (f : Reconciliation) (admits : Admissible s) (sound : Sound k f) where
+  reconciles : Reconciles k f s.q
+  reconciles = sound.at s.q admits.modulus
+
+  positive : 0 < s.p
+  positive = p_positive s admits
 
   -- step times what an eighth of the circle holds
   tolerated : 2 * s.l * (k.step * s.e + k.step * s.rounding) ≤ tolerance k s.q
@@ -51,12 +55,12 @@ module _ (s : Sizes) (k : ReconcilerNumbers) (f : Reconciliation) (admits : Admi
   pub house_lawful : Lawful (house_numbers s k) (house_functions s k f)
   house_lawful = record {
     in_range = house_in_range;
-    recover_range = recover_range s.q s.p k.step p_positive admits.p_below sound.small.step_is;
+    recover_range = recover_range s.q s.p k.step positive admits.p_below sound.small.step_is;
     signal_range = reconciles.signal_range;
     bit_range = reconciles.bit_range;
     read_range = reconciles.read_range;
-    round_range = λ x h. round_within s.q s.p k.step p_positive admits.p_below sound.small.step_is x;
-    round_near = round_near s.q s.p k.step p_positive admits.p_below sound.small.step_is s.rounding admits.rounding_reaches;
+    round_range = λ x h. round_within s.q s.p k.step positive admits.p_below sound.small.step_is x;
+    round_near = round_near s.q s.p k.step positive admits.p_below sound.small.step_is s.rounding admits.rounding_reaches;
     reads_within = reconciles.reads_within;
     balanced = reconciles.balanced;
     within_tolerance = tolerated;

@@ -1,6 +1,6 @@
 -- Recovering and rounding: what is recovered, that a rounded value is a nearest one, and how far rounding moves a residue.
-use Rattle.std.specs.Prelude.{◌≡◌, ℕ, zero, suc, ◌+◌, ◌-◌, ◌*◌, ◌/◌, ◌%◌, ◌<◌, ◌≤◌, ◌⊎◌, pos, ◌-ℤ◌, nat_lt, unsigned_abs}
-use Rattle.std.proofs.Common.{⊎_elim, sym, ap, subst, ◌∙◌, le_refl, mod-lt, mod-eq_of_lt, mul-le-mul_left, mul-le-mul_right, arith}
+use Rattle.std.specs.Prelude.{◌≡◌, ℕ, zero, suc, ◌+◌, ◌-◌, ◌*◌, ◌/◌, ◌%◌, ◌<◌, ◌≤◌, ◌⊎◌, pos, ◌-ℤ◌, unsigned_abs}
+use Rattle.std.proofs.Common.{⊎_elim, sym, ap, subst, ◌∙◌, le_refl, mod-lt, mod-eq_of_lt, mul-le-mul_right, arith}
 use Rattle.std.proofs.Math.Nat.{mod-le, mod-mod, mod-eq-sub-mod, add-mod_right, add-mul-mod_self_left, mul-div_right}
 use Rattle.std.proofs.lemmas.Int.{ints}
 use Rattle.std.proofs.lemmas.Bool.{cases_lt}
