@@ -1,13 +1,15 @@
 -- One step of each measure.
-use Rattle.std.proofs.Common.{◌≡◌, ℕ, zero, suc, ◌+◌, ◌*◌, ◌^◌, ◌<◌, ◌≤◌, Bool, false, cond, ◌&&◌, eqb, leb, ◌⊎◌, ℤ, pos, ◌-ℤ◌, ◌≤ℤ◌, Ok, sym, refl, ap, ◌∙◌, subst, inl, inr, ⊎_elim, add-zero, add-one, arith}
+use Rattle.std.proofs.Common.{◌≡◌, ℕ, zero, suc, ◌+◌, ◌*◌, ◌^◌, ◌<◌, ◌≤◌, Bool, false, cond, ◌&&◌, eqb, leb, ◌⊎◌, ℤ, pos, ◌-ℤ◌, ◌≤ℤ◌, Ok, sym, refl, ap, ◌∙◌, subst, inl, inr, ⊎_elim, add-zero, add-one, zero-add, arith}
 use lib.Signed.{lt_z}
 use Rattle.std.proofs.lemmas.Int.{ints, clamps}
-use Rattle.std.proofs.lemmas.Bool.{le-leb, lt-leb, eq-eqb, ne_eqb, and_from, and_left, and_right, cases_lt, cases_cond, cond_both}
+use Rattle.std.proofs.lemmas.Bool.{le-leb, lt-leb, and_left, cases_lt, cases_cond, cond_both}
 use Rattle.std.specs.Int.{int_min, int_max}
+use Rattle.std.specs.List.{count_by, range_with_len}
+use Rattle.std.proofs.lemmas.List.Sums.{sum_by-cons}
 use Rattle.profile.proofs.Accepted.{recovered}
 use Rattle.profile.specs.Answers.{recover_answer}
 use Rattle.profile.specs.Counts.{count}
-use Rattle.profile.specs.Laws.{Functions, Lawful, key_count}
+use Rattle.profile.specs.Laws.{Functions, Lawful}
 use Rattle.profile.specs.declared.numbers.Numbers.{Numbers}
 use Rattle.survey.specs.Surveys.{distance, tie, IsFirst, Surveyed, widened}
 use Rattle.survey.specs.declared.rounding.RoundingSurvey.{RoundingSurvey}
@@ -41,18 +43,21 @@ recovered_below k f lawful y t e =
 pub count_more : (passes : ℕ → Bool) (n : ℕ) → count passes (n + 1) ≡ count passes n + cond (passes n) 1 0
 count_more passes n = ap (count passes) (add-one n)
 
-module _ (f : Functions) (n coin signal bit : ℕ) where
-  -- a residue with the signal and the key bit is one more, and any other is none
-  pub key_count_yes : f.signal n coin ≡ signal → f.key_bit n coin ≡ bit → key_count f.signal f.key_bit (n + 1) coin signal bit ≡ key_count f.signal f.key_bit n coin signal bit + 1
-  key_count_yes s b = count_more _ n ∙ ap (λ t. key_count f.signal f.key_bit n coin signal bit + cond t 1 0) (and_from _ _ (eq-eqb _ _ s) (eq-eqb _ _ b))
+-- one number more at the end of a range
+count_by_last : (test : ℕ → Bool) (a n : ℕ) → count_by test (range_with_len a (suc n)) ≡ count_by test (range_with_len a n) + cond (test (a + n)) 1 0
+count_by_last test a zero = rw (add-zero a) (omega arith)
+count_by_last test a (suc n) =
+    let rest = count_by_last test (a + 1) n in
+    let at : a + 1 + n ≡ a + suc n = omega arith in
+    let one : ℕ → ℕ = λ k. cond (test k) 1 0 in
+    rw (← at) (omega (arith, sum_by-cons one a (range_with_len (a + 1) (suc n)), sum_by-cons one a (range_with_len (a + 1) n)))
 
-  pub key_count_other_signal : (f.signal n coin ≡ signal → ⊥) → key_count f.signal f.key_bit (n + 1) coin signal bit ≡ key_count f.signal f.key_bit n coin signal bit
-  key_count_other_signal s =
-      count_more _ n ∙ (ap (λ t. key_count f.signal f.key_bit n coin signal bit + cond t 1 0) (and_left _ _ (ne_eqb _ _ s)) ∙ add-zero _)
-
-  pub key_count_other_bit : (f.key_bit n coin ≡ bit → ⊥) → key_count f.signal f.key_bit (n + 1) coin signal bit ≡ key_count f.signal f.key_bit n coin signal bit
-  key_count_other_bit b =
-      count_more _ n ∙ (ap (λ t. key_count f.signal f.key_bit n coin signal bit + cond t 1 0) (and_right _ _ (ne_eqb _ _ b)) ∙ add-zero _)
+-- a count over a range, by a test that agrees there
+pub count_range : (test passes : ℕ → Bool) (n : ℕ) → ((x : ℕ) → x < n → test x ≡ passes x) → count_by test (range_with_len 0 n) ≡ count passes n
+count_range test passes zero same = refl
+count_range test passes (suc n) same =
+    let last : test (0 + n) ≡ passes n = ap test (zero-add n) ∙ same n (omega arith) in
+    omega (arith, count_by_last test 0 n, count_range test passes n (λ x h. same x (omega arith)), ap {B = ℕ} (λ b. cond b 1 0) last)
 
 pub count_within : (passes : ℕ → Bool) (n : ℕ) → count passes n ≤ n
 count_within passes zero = omega arith

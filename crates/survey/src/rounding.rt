@@ -14,36 +14,40 @@ pub struct RoundingSurvey {
     pub ties: u32,
 }
 
+impl RoundingSurvey {
+    // The survey with one more residue.
+    fn widen(self, one: Rounded) -> Self
+        requires { self.ties < 2 ^ 23 }
+        ensures { result ≡ widened self one.distance one.tie }
+    {
+        RoundingSurvey {
+            least: self.least.min(one.distance),
+            largest: self.largest.max(one.distance),
+            ties: self.ties + u32::from(one.tie),
+        }
+    }
+}
+
 #[derive(Clone, Copy)]
 struct Rounded {
     distance: i32,
     tie: bool,
 }
 
-// How far the residue x is moved, and whether the next value is as near.
-fn round_one<P: Profile>(x: u32) -> Result<Rounded, Fault>
-    requires { x < P.NUMBERS.q }
-    ensures { result ≡ Ok (record { distance = distance P.functions x; tie = tie P.NUMBERS P.functions x }) }
-{
-    let k = P::NUMBERS;
-    let y = P::round(x)?;
-    let t = P::recover(y)?;
-    let tie = y + k.step <= k.p && t + P::recover(y + k.step)? == 2 * x;
-    Ok(Rounded {
-        distance: t as i32 - x as i32,
-        tie,
-    })
-}
-
-// The survey with one more residue.
-fn widen(survey: RoundingSurvey, one: Rounded) -> RoundingSurvey
-    requires { survey.ties < 2 ^ 23 }
-    ensures { result ≡ widened survey one.distance one.tie }
-{
-    RoundingSurvey {
-        least: survey.least.min(one.distance),
-        largest: survey.largest.max(one.distance),
-        ties: survey.ties + u32::from(one.tie),
+impl Rounded {
+    // How far the residue x is moved, and whether the next value is as near.
+    fn of<P: Profile>(x: u32) -> Result<Self, Fault>
+        requires { x < P.NUMBERS.q }
+        ensures { result ≡ Ok (record { distance = distance P.functions x; tie = tie P.NUMBERS P.functions x }) }
+    {
+        let k = P::NUMBERS;
+        let y = P::round(x)?;
+        let t = P::recover(y)?;
+        let tie = y + k.step <= k.p && t + P::recover(y + k.step)? == 2 * x;
+        Ok(Rounded {
+            distance: t as i32 - x as i32,
+            tie,
+        })
     }
 }
 
@@ -51,14 +55,14 @@ fn widen(survey: RoundingSurvey, one: Rounded) -> RoundingSurvey
 pub fn survey_rounding<P: Profile>() -> Result<RoundingSurvey, Fault>
     ensures { rounding_answer P.NUMBERS P.functions result }
 {
-    let Rounded { distance, tie } = round_one::<P>(0)?;
+    let Rounded { distance, tie } = Rounded::of::<P>(0)?;
     let mut survey = RoundingSurvey {
         least: distance,
         largest: distance,
         ties: u32::from(tie),
     };
     for x in 1..P::NUMBERS.q {
-        survey = widen(survey, round_one::<P>(x)?);
+        survey = survey.widen(Rounded::of::<P>(x)?);
     }
     Ok(survey)
 }
