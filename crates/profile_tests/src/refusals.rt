@@ -70,10 +70,7 @@ fn moduli(rt: HostRuntime) -> Result<(), Fail> {
     assert!(rt; Modulus::new(1).is_none(), "too small");
     assert!(rt; Modulus::new(256).is_none(), "even");
     assert!(rt; Modulus::new(8388609).is_none(), "too large");
-    let Some(q) = Modulus::new(257) else {
-        assert!(rt; false, "257 is a modulus");
-        return Ok(());
-    };
+    let q = Modulus::new(257).ok_or("257 is not a modulus")?;
     assert_eq!(rt; q.signed(128), Ok(128));
     assert_eq!(rt; q.signed(129), Ok(-128));
     assert_eq!(rt; q.signed(257), Err(Fault::OutOfRange(0)));

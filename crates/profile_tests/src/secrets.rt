@@ -9,10 +9,8 @@ type SecretOfS = Place<512, 2, 191>;
 // 512 coefficients, of which the first `many` are `value`.
 fn leading(many: usize, value: i32) -> [i32; 512] {
     let mut list = [0; 512];
-    for (i, c) in list.iter_mut().enumerate() {
-        if i < many {
-            *c = value;
-        }
+    for c in list.iter_mut().take(many) {
+        *c = value;
     }
     list
 }
@@ -54,13 +52,13 @@ fn refused_keeps_accepted_replaces_erased_holds_nothing(rt: HostRuntime) -> Resu
     assert_eq!(rt; place.fill(&leading(3, 9)), Err(Fault::OutOfRange(0)));
     assert_eq!(rt;
         place.secret(),
-        Some(&leading(3, 1)[0..512]),
+        Some(&leading(3, 1)[..]),
         "refused, it keeps the old secret"
     );
     assert_eq!(rt; place.fill(&leading(4, 2)), Ok(()));
     assert_eq!(rt;
         place.secret(),
-        Some(&leading(4, 2)[0..512]),
+        Some(&leading(4, 2)[..]),
         "accepted, it holds the new one"
     );
     place.erase();
