@@ -14,8 +14,7 @@ use std::marker::PhantomData;
 
 // The profile of a number set with a reconciler.
 pub struct House<S, K> {
-    number_set: PhantomData<S>,
-    reconciler: PhantomData<K>,
+    parts: PhantomData<(S, K)>,
 }
 
 fn modulus<S: NumberSet>() -> Modulus

@@ -48,8 +48,8 @@ impl Rounding {
         if above < below { high } else { low }
     }
 
-    #[tactic(auto, using(crate::specs::LawProofs::Floors::product_below, crate::specs::LawProofs::Floors::short_within, crate::specs::LawProofs::Floors::last_at_most, crate::specs::LawProofs::Floors::last_next_above))]
     // The largest y with floor(y q / p) at most x, which is floor(((x + 1) p - 1) / q).
+    #[tactic(auto, using(crate::specs::LawProofs::Floors::last_steps))]
     fn last_at_most(self, x: u32) -> u32
         requires { x < self.q }
         ensures at_most { result * self.q / self.p ≤ x }

@@ -17,6 +17,8 @@ module _ (xs : List ℤ) (i sum l : ℕ) where
   pub summing_end : length xs ≤ i → front_summing sum l (drop i xs) ≡ 0
   summing_end h = at_drop_all (front_summing sum l) xs i h
 
+pub ruleset summing_steps = (summing_more, summing_stop, summing_end)
+
 -- ---- a front that is the whole list
 
 all_within : (e : ℕ) (xs : List ℤ) → length xs ≤ front_within e xs → All (λ x. nat_abs x ≤ e) xs

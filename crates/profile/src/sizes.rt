@@ -13,7 +13,7 @@ pub fn front_within(coefficients: &[i32], bound: u32) -> usize
 }
 
 // How many coefficients come before the one at which the running sum of sizes first passes `limit`.
-#[tactic(auto, using(crate::proofs::Fronts::summing_more, crate::proofs::Fronts::summing_stop, crate::proofs::Fronts::summing_end))]
+#[tactic(auto, using(crate::proofs::Fronts::summing_steps))]
 pub fn front_summing(coefficients: &[i32], limit: u32) -> usize
     ensures { result ≡ front_summing 0 limit coefficients.now }
 {

@@ -73,3 +73,5 @@ module _ (q p : ℕ) (parts : 0 < p) (less : p < q) where
     last_next_above =
         let under = div-mul-le_self (short q p x) q in
         omega (arith, le-div (x + 1) ((whole q p x - short q p x / q + 1) * q) p parts (omega (arith, short_is, last_split)))
+
+pub ruleset last_steps = (product_below, short_within, last_at_most, last_next_above)
