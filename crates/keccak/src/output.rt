@@ -10,10 +10,9 @@ pub fn shake128(message: &[u8], output: &mut [u8])
 {
     let mut sponge = Shake128::absorb(message);
     let mut block = [0; RATE];
-    for i in 0..output.len().div_ceil(RATE) {
+    for at in (0..output.len()).step_by(RATE) {
         sponge.squeeze(&mut block);
-        let at = RATE * i;
         let size = RATE.min(output.len() - at);
-        output[at..at + size].copy_from_slice(&block[0..size]);
+        output[at..at + size].copy_from_slice(&block[..size]);
     }
 }
