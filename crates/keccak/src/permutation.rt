@@ -1,10 +1,8 @@
 // The permutation Keccak-f[1600] of FIPS 202. Lane (x, y) of a state is number x + 5 * y.
-ghost use Rattle.std.specs.Prelude.{◌≡◌, ℕ, ◌<◌, map, slice_index};
-ghost use Rattle.std.specs.List.{range_with_len};
+ghost use Rattle.std.specs.Prelude.{◌≡◌, ℕ, ◌<◌, slice_index};
 ghost use Rattle.keccak.specs.Permutation.{
   by_lane,
   parity,
-  effect,
   theta as theta_of,
   rho as rho_of,
   pi as pi_of,
@@ -91,7 +89,10 @@ fn pi(lanes: [u64; 25]) -> [u64; 25]
 fn chi(lanes: [u64; 25]) -> [u64; 25]
     ensures { result ≡ chi_of lanes }
 {
-    by_lane(|x, y| lanes[x + 5 * y] ^ !lanes[(x + 1) % 5 + 5 * y] & lanes[(x + 2) % 5 + 5 * y])
+    by_lane(|x, y| {
+        let product = !lanes[(x + 1) % 5 + 5 * y] & lanes[(x + 2) % 5 + 5 * y];
+        lanes[x + 5 * y] ^ product
+    })
 }
 
 // Adds the constant of a round to lane (0, 0).
