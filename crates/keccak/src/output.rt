@@ -5,6 +5,7 @@ ghost use Rattle.keccak.specs.Sponge.{shake128 as shake128_of};
 use crate::sponge::{RATE, Shake128};
 
 // Fills `output` with the first bytes of SHAKE128 of `message`.
+#[tactic(auto, using(crate::proofs::Squeezing::squeezed_none))]
 pub fn shake128(message: &[u8], output: &mut [u8])
     ensures { output.new ≡ shake128_of message.now (length output.old) }
 {

@@ -16,7 +16,7 @@ pub struct Shake128 {
 
 impl Shake128 {
     // The sponge after the whole message, padded as SHAKE128 has it.
-    #[tactic(auto, using(crate::proofs::Absorbing::absorbed_more))]
+    #[tactic(auto, using(crate::proofs::Absorbing::absorbed_more, crate::proofs::Absorbing::absorbed_is))]
     pub fn absorb(message: &[u8]) -> Shake128
         ensures { next_state result ≡ absorbed message.now }
     {
@@ -52,6 +52,7 @@ fn add_block(lanes: &mut [u64; 25], block: &[u8; RATE])
 }
 
 // The last block of a message of which `rest` is left: the rest and its padding.
+#[tactic(auto, using(crate::proofs::Padding::finished_is))]
 fn last_block(rest: &[u8]) -> [u8; RATE]
     requires { length rest.now < rate }
     ensures { result ≡ rest.now ++ padding (rate - length rest.now) }
@@ -65,6 +66,7 @@ fn last_block(rest: &[u8]) -> [u8; RATE]
 }
 
 // Writes the first 168 bytes of a state.
+#[tactic(auto, using(crate::proofs::Blocks::bytes_all))]
 fn write_block(lanes: &[u64; 25], block: &mut [u8; RATE])
     ensures { block.new ≡ output_block lanes.now }
 {
