@@ -1,39 +1,30 @@
--- Loops that write a list place by place.
-use Rattle.std.proofs.Common.{◌≡◌, ℕ, ◌+◌, ◌*◌, ◌/◌, ◌%◌, ◌<◌, List, map, length, get_or, set, sym, ap, ◌∙◌, subst, arith, length-set}
-use Rattle.std.specs.List.{range_with_len}
+-- A state that is written lane by lane.
+use Rattle.std.proofs.Common.{◌≡◌, ℕ, ◌+◌, ◌*◌, ◌/◌, ◌%◌, ◌<◌, List, length, get_or, set, sym, ◌∙◌, subst, inl, inr, arith, length-set}
+use Rattle.std.proofs.lemmas.Bool.{cases_lt}
+use Rattle.std.proofs.lemmas.Grind.{get_or-set_at}
+use Rattle.std.proofs.lemmas.List.{get_or-set_other}
 use Rattle.std.proofs.lemmas.List.FromFn.{fill_by_all}
-use Rattle.std.proofs.lemmas.List.Edits.{fill_by_more}
 use Rattle.keccak.specs.Permutation.{by_lane}
 
--- `out` has `many` places, and at each below n it has f of the place
-abbrev pub Listed : (ℕ → ℕ) → ℕ → List ℕ → ℕ → Type 0
-Listed f many out n = (length out ≡ many) × ((k : ℕ) → k < n → get_or out k 0 ≡ f k)
+-- `out` has 25 lanes, and each lane (x, y) below n is what P allows there
+pub record Filled (P : ℕ → ℕ → ℕ → Type 0) (out : List ℕ) (n : ℕ) : Type 0 where
+  pub long : length out ≡ 25
+  pub lanes : (k : ℕ) → k < n → P (k % 5) (k / 5) (get_or out k 0)
 
-pub listed_more : (f : ℕ → ℕ) (many : ℕ) (out : List ℕ) (i v : ℕ) → i < many → Listed f many out i → v ≡ f i → Listed f many (set out i v) (i + 1)
-listed_more f many out i v below (long, before) is = (
-  length-set out i v ∙ long,
-  λ k h. subst (λ w. get_or (set out i w) k 0 ≡ f k) (sym is) (fill_by_more f out i 0 (omega arith) before k h),
-)
+pub filled_more : (P : ℕ → ℕ → ℕ → Type 0) (out : List ℕ) (x y v : ℕ) → x < 5 → y < 5 → Filled P out (x + 5 * y) → P x y v → Filled P (set out (x + 5 * y) v) (x + 1 + 5 * y)
+filled_more P out x y v below_x below_y before here = record {
+  long = length-set out (x + 5 * y) v ∙ before.long;
+  lanes = λ k h. elim (cases_lt k (x + 5 * y)) [
+    | inl below ↦ subst (P (k % 5) (k / 5)) (sym (get_or-set_other out (x + 5 * y) k v 0 (λ e. omega arith))) (before.lanes k below)
+    | inr above ↦
+        let column : x ≡ k % 5 = omega arith in
+        let row : y ≡ k / 5 = omega arith in
+        let value : v ≡ get_or (set out (x + 5 * y) v) k 0 = sym (get_or-set_at out (x + 5 * y) k v 0 (omega arith) (omega arith)) in
+        rw (← column, ← row, ← value) here
+  ];
+}
 
-pub listed_all : (f : ℕ → ℕ) (many : ℕ) (out : List ℕ) (n : ℕ) → n ≡ many → Listed f many out n → out ≡ map f (range_with_len 0 many)
-listed_all f many out n whole (long, all) = fill_by_all f out many 0 long (λ k h. all k (omega arith))
-
--- the lanes of a state, as a function of the place
-abbrev pub placed : (ℕ → ℕ → ℕ) → ℕ → ℕ
-placed f i = f (i % 5) (i / 5)
-
--- a row at a time
-abbrev pub Filled : (ℕ → ℕ → ℕ) → List ℕ → ℕ → Type 0
-Filled f out n = Listed (placed f) 25 out n
-
-pub filled_more : (f : ℕ → ℕ → ℕ) (out : List ℕ) (x y v : ℕ) → x < 5 → y < 5 → Filled f out (x + 5 * y) → v ≡ f x y → Filled f (set out (x + 5 * y) v) (x + 1 + 5 * y)
-filled_more f out x y v below_x below_y before is =
-    let column : (x + 5 * y) % 5 ≡ x = omega arith in
-    let row : (x + 5 * y) / 5 ≡ y = omega arith in
-    let here : placed f (x + 5 * y) ≡ f x y = ap (λ a. f a ((x + 5 * y) / 5)) column ∙ ap (f x) row in
-    let next : x + 5 * y + 1 ≡ x + 1 + 5 * y = omega arith in
-    subst (Filled f (set out (x + 5 * y) v)) next (listed_more (placed f) 25 out (x + 5 * y) v (omega arith) before (is ∙ sym here))
-
-pub filled_all : (f : ℕ → ℕ → ℕ) (out : List ℕ) (n : ℕ) → n ≡ 25 → Filled f out n → out ≡ by_lane f
+pub filled_all : (P : ℕ → ℕ → ℕ → Type 0) (f : ℕ → ℕ → ℕ) (out : List ℕ) (n : ℕ) → n ≡ 25 → Filled P out n → ((x y v : ℕ) → x < 5 → y < 5 → P x y v → v ≡ f x y) → out ≡ by_lane f
 unfolding by_lane
-filled_all f out n whole all = listed_all (placed f) 25 out n whole all
+filled_all P f out n whole all is =
+    fill_by_all (λ k. f (k % 5) (k / 5)) out 25 0 all.long (λ k h. is (k % 5) (k / 5) (get_or out k 0) (omega arith) (omega arith) (all.lanes k (omega arith)))

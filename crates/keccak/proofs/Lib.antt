@@ -1,8 +1,9 @@
 pub mod Fills
-pub mod Effects
 pub mod Rounds
+pub mod Chunks
+pub mod Writes
 pub mod Blocks
 pub mod Padding
 pub mod Streams
+pub mod Squeezing
 pub mod Absorbing
-pub mod Writes

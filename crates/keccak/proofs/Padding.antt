@@ -40,15 +40,11 @@ finished_by rest (suc n) whole =
     ∙ append_assoc rest (0x1f ∷ replicate n 0) (0x80 ∷ [])
     ∙ ap (λ p. rest ++ p) (sym (padding_of_two n))
 
--- what is left of a block of zeros after the rest
-pub zeros_left : (used : ℕ) → drop {A = ℕ} (used - 0) (replicate 168 0) ≡ replicate (rate - used) 0
-zeros_left used = let all : used - 0 ≡ used = omega arith in ap (λ k. drop {A = ℕ} k (replicate 168 0)) all ∙ drop-replicate used 168 0
-
 -- the rest copied over the front of a block of zeros
-pub finished_is : (rest copied zeros : List ℕ) → length rest < rate → copied ≡ rest → zeros ≡ replicate (rate - length rest) 0 → finished (copied ++ zeros) (length rest) ≡ rest ++ padding (rate - length rest)
-finished_is rest copied zeros below is are =
+pub finished_is : (rest copied : List ℕ) → length rest < rate → copied ≡ rest → finished (copied ++ drop (length rest) (replicate 168 0)) (length rest) ≡ rest ++ padding (rate - length rest)
+finished_is rest copied below is =
     let lacking : rate - length rest ≡ suc (167 - length rest) = omega arith in
-    ap (λ b. finished (b ++ zeros) (length rest)) is
-    ∙ ap (λ z. finished (rest ++ z) (length rest)) (are ∙ ap (λ k. replicate k 0) lacking)
+    ap (λ b. finished (b ++ drop (length rest) (replicate 168 0)) (length rest)) is
+    ∙ ap (λ z. finished (rest ++ z) (length rest)) (drop-replicate (length rest) 168 0 ∙ ap (λ k. replicate k 0) lacking)
     ∙ finished_by rest (167 - length rest) (omega arith)
     ∙ ap (λ k. rest ++ padding k) (sym lacking)

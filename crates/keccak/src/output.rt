@@ -5,15 +5,15 @@ ghost use Rattle.keccak.specs.Sponge.{shake128 as shake128_of};
 use crate::sponge::{RATE, Shake128};
 
 // Fills `output` with the first bytes of SHAKE128 of `message`.
+#[tactic(auto, using(crate::proofs::Squeezing::squeezed_none))]
 pub fn shake128(message: &[u8], output: &mut [u8])
     ensures { output.new ≡ shake128_of message.now (length output.old) }
 {
     let mut sponge = Shake128::absorb(message);
     let mut block = [0; RATE];
-    for i in 0..output.len().div_ceil(RATE) {
+    for at in (0..output.len()).step_by(RATE) {
         sponge.squeeze(&mut block);
-        let at = RATE * i;
         let size = RATE.min(output.len() - at);
-        output[at..at + size].copy_from_slice(&block[0..size]);
+        output[at..at + size].copy_from_slice(&block[..size]);
     }
 }

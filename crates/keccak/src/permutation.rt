@@ -1,18 +1,18 @@
 // The permutation Keccak-f[1600] of FIPS 202. Lane (x, y) of a state is number x + 5 * y.
-ghost use Rattle.std.specs.Prelude.{◌≡◌, ◌<◌, map};
-ghost use Rattle.std.specs.List.{range_with_len};
+ghost use Rattle.std.specs.Prelude.{◌≡◌, ℕ, ◌<◌, slice_index};
 ghost use Rattle.keccak.specs.Permutation.{
+  by_lane,
   parity,
-  effect,
   theta as theta_of,
   rho as rho_of,
   pi as pi_of,
   chi as chi_of,
   iota as iota_of,
+  round_constants,
   keccak_f,
 };
 
-const ROUNDS: usize = 24;
+use std::array::from_fn;
 
 #[rattlefmt::skip]
 const ROUND_CONSTANTS: [u64; 24] = [
@@ -34,92 +34,73 @@ const ROTATION_OFFSETS: [u32; 25] = [
     18,  2, 61, 56, 14,
 ];
 
-// The parities of the five columns.
-fn parities(lanes: [u64; 25]) -> [u64; 5]
-    ensures { result ≡ map (parity lanes) (range_with_len 0 5) }
+// The state whose lane (x, y) is `lane(x, y)`.
+#[tactic(auto, using(crate::proofs::Fills::filled_more))]
+fn by_lane<F: Fn(usize, usize) -> u64>(lane: F) -> [u64; 25]
+    requires { (x y : ℕ) → x < 5 → y < 5 → F.pre lane x y }
+    ensures { (f : ℕ → ℕ → ℕ) → ((x y v : ℕ) → x < 5 → y < 5 → F.post lane x y v → v ≡ f x y) → result ≡ by_lane f }
 {
-    let mut sums = [0; 5];
-    for x in 0..5 {
-        sums[x] = lanes[x] ^ lanes[x + 5] ^ lanes[x + 10] ^ lanes[x + 15] ^ lanes[x + 20];
+    let mut lanes = [0; 25];
+    for y in 0..5 {
+        for x in 0..5 {
+            lanes[x + 5 * y] = lane(x, y);
+        }
     }
-    sums
+    lanes
 }
 
-// What theta adds to the lanes of each column.
-fn effects(lanes: [u64; 25]) -> [u64; 5]
-    ensures { result ≡ map (effect lanes) (range_with_len 0 5) }
+// The parities of the five columns.
+fn parities(lanes: [u64; 25]) -> [u64; 5]
+    ensures { (x : ℕ) → x < 5 → slice_index result x ≡ parity lanes x }
 {
-    let sums = parities(lanes);
-    let mut added = [0; 5];
-    for x in 0..5 {
-        added[x] = sums[(x + 4) % 5] ^ sums[(x + 1) % 5].rotate_left(1);
-    }
-    added
+    from_fn(|x| lanes[x] ^ lanes[x + 5] ^ lanes[x + 10] ^ lanes[x + 15] ^ lanes[x + 20])
 }
 
 // Adds to each lane the parities of two columns beside it.
+#[tactic(auto, unfolding(crate::specs::Permutation::theta))]
 fn theta(lanes: [u64; 25]) -> [u64; 25]
     ensures { result ≡ theta_of lanes }
 {
-    let added = effects(lanes);
-    let mut out = [0; 25];
-    for y in 0..5 {
-        for x in 0..5 {
-            out[x + 5 * y] = lanes[x + 5 * y] ^ added[x];
-        }
-    }
-    out
+    let sums = parities(lanes);
+    by_lane(|x, y| {
+        let effect = sums[(x + 4) % 5] ^ sums[(x + 1) % 5].rotate_left(1);
+        lanes[x + 5 * y] ^ effect
+    })
 }
 
 // Rotates each lane by the offset of its place.
-#[tactic(auto, using(crate::proofs::Fills::filled_all), unfolding(crate::specs::Permutation::rho))]
+#[tactic(auto, unfolding(crate::specs::Permutation::rho))]
 fn rho(lanes: [u64; 25]) -> [u64; 25]
     ensures { result ≡ rho_of lanes }
 {
-    let mut out = [0; 25];
-    for y in 0..5 {
-        for x in 0..5 {
-            out[x + 5 * y] = lanes[x + 5 * y].rotate_left(ROTATION_OFFSETS[x + 5 * y]);
-        }
-    }
-    out
+    by_lane(|x, y| lanes[x + 5 * y].rotate_left(ROTATION_OFFSETS[x + 5 * y]))
 }
 
 // Moves the lanes to other places.
-#[tactic(auto, using(crate::proofs::Fills::filled_all), unfolding(crate::specs::Permutation::pi))]
+#[tactic(auto, unfolding(crate::specs::Permutation::pi))]
 fn pi(lanes: [u64; 25]) -> [u64; 25]
     ensures { result ≡ pi_of lanes }
 {
-    let mut out = [0; 25];
-    for y in 0..5 {
-        for x in 0..5 {
-            out[x + 5 * y] = lanes[(x + 3 * y) % 5 + 5 * x];
-        }
-    }
-    out
+    by_lane(|x, y| lanes[(x + 3 * y) % 5 + 5 * x])
 }
 
 // Adds to each lane the product of the next two of its row, the first of them complemented.
+#[tactic(auto, unfolding(crate::specs::Permutation::chi))]
 fn chi(lanes: [u64; 25]) -> [u64; 25]
     ensures { result ≡ chi_of lanes }
 {
-    let mut out = [0; 25];
-    for y in 0..5 {
-        for x in 0..5 {
-            let product = !lanes[(x + 1) % 5 + 5 * y] & lanes[(x + 2) % 5 + 5 * y];
-            out[x + 5 * y] = lanes[x + 5 * y] ^ product;
-        }
-    }
-    out
+    by_lane(|x, y| {
+        let product = !lanes[(x + 1) % 5 + 5 * y] & lanes[(x + 2) % 5 + 5 * y];
+        lanes[x + 5 * y] ^ product
+    })
 }
 
-// Adds the constant of the round to lane (0, 0).
+// Adds the constant of a round to lane (0, 0).
 #[tactic(auto, unfolding(crate::specs::Permutation::iota))]
-fn iota(mut lanes: [u64; 25], round: usize) -> [u64; 25]
-    requires { round < 24 }
-    ensures { result ≡ iota_of round lanes }
+fn iota(mut lanes: [u64; 25], constant: u64) -> [u64; 25]
+    ensures { (round : ℕ) → constant ≡ slice_index round_constants round → result ≡ iota_of round lanes }
 {
-    lanes[0] ^= ROUND_CONSTANTS[round];
+    lanes[0] ^= constant;
     lanes
 }
 
@@ -128,8 +109,8 @@ pub(crate) fn keccak_f(lanes: &mut [u64; 25])
     ensures { lanes.new ≡ keccak_f lanes.old }
 {
     let mut state = *lanes;
-    for round in 0..ROUNDS {
-        state = iota(chi(pi(rho(theta(state)))), round);
+    for constant in ROUND_CONSTANTS {
+        state = iota(chi(pi(rho(theta(state)))), constant);
     }
     *lanes = state;
 }

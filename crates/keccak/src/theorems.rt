@@ -10,6 +10,7 @@ pub fn tables_follow_the_rules()
 
 // An output has the length that is asked for, begins with every shorter output, and its bytes are those of the blocks
 // in order.
+#[tactic(auto, using(crate::proofs::Streams::length_shake128, crate::proofs::Streams::take_shake128, crate::proofs::Streams::shake128_byte))]
 pub fn output_laws()
     ensures { OutputLaws }
 {}

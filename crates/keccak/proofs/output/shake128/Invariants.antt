@@ -1,11 +1,7 @@
-use Rattle.std.proofs.Common.{◌≡◌, ◌*◌, length}
-use Rattle.keccak.specs.Laws.{permuted}
+use Rattle.std.proofs.Common.{length}
 use Rattle.keccak.specs.Sponge.{next_state}
-use Rattle.keccak.proofs.Writes.{Written}
+use Rattle.keccak.proofs.Squeezing.{Squeezed}
 use Rattle.keccak.proofs.output.shake128.Given as goal
 
-abbrev pub invariant-loop-i : goal.invariant-loop-i
-invariant-loop-i l =
-    (next_state l.sponge ≡ permuted l.i (next_state l.initial.sponge))
-    × (length l.block ≡ 168)
-    × Written (next_state l.initial.sponge) l.output (168 * l.i)
+abbrev pub invariant-loop-at : goal.invariant-loop-at
+invariant-loop-at l = Squeezed (next_state l.initial.sponge) (next_state l.sponge) (length l.initial.output) l.output l.at

@@ -1,10 +1,7 @@
-use Rattle.std.proofs.Common.{◌+◌, ◌*◌}
+use Rattle.std.proofs.Common.{◌*◌}
 use Rattle.keccak.specs.Sponge.{output_byte}
-use Rattle.keccak.proofs.Fills.{Listed}
+use Rattle.keccak.proofs.Writes.{Written}
 use Rattle.keccak.proofs.sponge.write_block.Given as goal
 
 abbrev pub invariant-loop-i : goal.invariant-loop-i
-invariant-loop-i l = Listed (output_byte l.lanes) 168 l.block (8 * l.i)
-
-abbrev pub invariant-loop-j : goal.invariant-loop-j
-invariant-loop-j l = Listed (output_byte l.lanes) 168 l.block (8 * l.i + l.j)
+invariant-loop-i l = Written (output_byte l.lanes) 168 l.block (8 * l.i)

@@ -1,6 +1,6 @@
-use Rattle.std.proofs.Common.{◌≡◌}
+use Rattle.std.proofs.Common.{◌≡◌, take}
 use Rattle.keccak.proofs.Absorbing.{after_blocks}
 use Rattle.keccak.proofs.sponge.Shake128.absorb.Given as goal
 
-abbrev pub invariant-loop-i : goal.invariant-loop-i
-invariant-loop-i l = l.lanes ≡ after_blocks l.message l.i
+abbrev pub invariant-loop-block : goal.invariant-loop-block
+invariant-loop-block l = l.lanes ≡ after_blocks (take l.block-index l.blocks)

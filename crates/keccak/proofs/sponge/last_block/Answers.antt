@@ -1,6 +1,0 @@
-use Rattle.std.proofs.Common.{length}
-use Rattle.keccak.proofs.Padding.{zeros_left, finished_is}
-use Rattle.keccak.proofs.sponge.last_block.Goals as goal
-
-pub returns : goal.returns
-returns c = finished_is c.args.rest.now c.copy_from_slice.new.self _ c.requires c.copy_from_slice.ensures.after (zeros_left (length c.args.rest.now))
