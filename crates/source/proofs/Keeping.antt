@@ -1,9 +1,7 @@
 -- The numbers that are kept: of no group, one group on, and where they fill a list.
-use Rattle.std.proofs.Common.{◌≡◌, ℕ, ◌+◌, ◌-◌, ◌%◌, ◌^◌, ◌<◌, ◌≤◌, cond, ltb, leb, List, [], ◌∷◌, ◌++◌, map, length, take, set, Ok, Err, filter, sym, refl, ap, ◌∙◌, ⊎_elim, arith}
-use Rattle.std.proofs.lemmas.List.{take_more_set, append_assoc, append-nil, length-drop, length-take-le}
-use Rattle.std.proofs.lemmas.Bool.{cases_lt, cond-true, cond-false, lt-ltb, le-ltb, lt-leb}
-use Rattle.ring.specs.declared.fault.Fault.TheVariants.{SourceSpent}
-use Rattle.source.specs.Derivation.{bits, groups, candidates, kept, keep_answer, WholeGroup}
+use Rattle.std.proofs.Common.{◌≡◌, ℕ, ◌-◌, ◌%◌, ◌^◌, ◌<◌, ◌≤◌, cond, ltb, List, [], ◌∷◌, map, length, filter, refl, ap, ◌∙◌, ⊎_elim, arith}
+use Rattle.std.proofs.lemmas.Bool.{cases_lt, cond-true, cond-false, lt-ltb, le-ltb}
+use Rattle.source.specs.Derivation.{bits, groups, candidates, kept, WholeGroup}
 use Rattle.source.specs.declared.sampler.Sampler.{Sampler}
 use Rattle.source.proofs.BitCounts.{bits_fit}
 use Rattle.source.proofs.Groups.{groups_none, groups_more}

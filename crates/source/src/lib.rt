@@ -6,7 +6,6 @@ mod derivation;
 mod group;
 mod sampler;
 mod shake;
-
 mod source;
 mod stream;
 mod tape;

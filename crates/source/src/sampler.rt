@@ -64,7 +64,12 @@ impl Sampler {
         Ok(())
     }
     // Fills `output` with those numbers, or leaves it as it was. They stand in `room` until all of them are there.
-    pub(crate) fn fill_through<S: ByteSource>(self, source: &mut S, room: &mut [u32], output: &mut [u32]) -> Result<(), Fault>
+    pub(crate) fn fill_through<S: ByteSource>(
+        self,
+        source: &mut S,
+        room: &mut [u32],
+        output: &mut [u32],
+    ) -> Result<(), Fault>
         requires { length output.old ≤ length room.old }
         ensures means { S.meaning source.new ≡ S.meaning source.old }
         ensures answer { let all = kept self.q (ahead S.ByteSource source.old) in

@@ -13,7 +13,7 @@ returns-clause-gives c =
     let before = c.args.self.now in
     let s = c.if-self-eq-BLOCK.self in
     elim c.if-self-eq-BLOCK.branch [
-      then-self-eq-BLOCK+in_ok-squeeze w ↦
+      | then-self-eq-BLOCK+in_ok-squeeze w ↦
           let f = w.in_ok-squeeze.ensures in
           byte_next before s (rw w.self-is f.seeded) (rw w.self-is f.stays) (rw w.self-is (omega (arith, f.fresh)))
       | else-self-eq-BLOCK w ↦

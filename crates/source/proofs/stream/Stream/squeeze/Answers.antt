@@ -1,4 +1,4 @@
-use Rattle.std.proofs.Common.{◌-◌, sym, ap, ◌∙◌, arith}
+use Rattle.std.proofs.Common.{sym, ap, ◌∙◌, arith}
 use Rattle.keccak.specs.Laws.{permuted}
 use Rattle.keccak.specs.Permutation.{keccak_f}
 use Rattle.keccak.specs.Sponge.{absorbed, output_block}
