@@ -22,6 +22,7 @@ pub(crate) struct Sampler {
 }
 
 impl Sampler {
+    // Takes as many bits as q - 1 needs, and as many bytes as these bits need.
     #[tactic(auto, using(crate::proofs::BitCounts::bits_le))]
     pub(crate) fn below(q: u32) -> Self
         requires least { 1 < q }
@@ -63,6 +64,7 @@ impl Sampler {
         }
         Ok(())
     }
+
     // Fills `output` with those numbers, or leaves it as it was. They stand in `room` until all of them are there.
     pub(crate) fn fill_through<S: ByteSource>(
         self,

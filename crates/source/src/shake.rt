@@ -9,7 +9,7 @@ use crate::stream::Stream;
 // Reads the stream of the last seed, of which there is none before the first.
 #[derive(Drop)]
 pub struct ShakeSource {
-    pub(crate) stream: Option<Stream>,
+    stream: Option<Stream>,
 }
 
 impl ShakeSource {

@@ -16,11 +16,11 @@ const BLOCKS: usize = 24;
 // alone know the seed.
 #[derive(Drop)]
 pub(crate) struct Stream {
-    pub(crate) seed: Snapshot<[u8; 16]>,
-    pub(crate) sponge: Shake128,
-    pub(crate) block: [u8; 168],
-    pub(crate) offset: usize,
-    pub(crate) left: usize,
+    seed: Snapshot<[u8; 16]>,
+    sponge: Shake128,
+    block: [u8; 168],
+    offset: usize,
+    left: usize,
     ghost within: { left ≤ 24 },
     ghost inside: { offset ≤ 168 },
     ghost unread: { left ≡ 24 → offset ≡ 168 },

@@ -1,15 +1,17 @@
 // The same bytes for every seed.
 ghost use Rattle.std.specs.Prelude.{◌≡◌, ◌-◌, ℕ, List, [], length, drop};
 ghost use Rattle.std.specs.Option.{ForSome};
+ghost use Rattle.std.specs.Slice.Iter.{iter_rest};
 
 use crate::source::ByteSource;
+use std::slice::Iter;
 
-// Has begun where it has something `ahead`, even nothing more than the end of its bytes.
+// Gives nothing before it begins; then `ahead` goes over its bytes.
 #[derive(Drop)]
 pub struct Tape<'a> {
     bytes: &'a [u8],
-    ahead: Option<&'a [u8]>,
-    ghost is_end: { ForSome ahead (λ rest. rest.now ≡ drop (length bytes.now - length rest.now) bytes.now) },
+    ahead: Option<Iter<'a, u8>>,
+    ghost is_end: { ForSome ahead (λ it. iter_rest it ≡ drop (length bytes.now - length (iter_rest it)) bytes.now) },
 }
 
 impl<'a> Tape<'a> {
@@ -35,13 +37,11 @@ impl<'a> ByteSource for Tape<'a> {
     ghost position = { tape_position };
 
     fn begin(&mut self, _seed: &[u8; 16]) {
-        self.ahead = Some(self.bytes);
+        self.ahead = Some(self.bytes.iter());
     }
 
     #[tactic(auto, using(crate::proofs::Ends::end_more))]
     fn next(&mut self) -> Option<u8> {
-        let (byte, rest) = self.ahead?.split_first()?;
-        self.ahead = Some(rest);
-        Some(*byte)
+        self.ahead.as_mut()?.next().copied()
     }
 }
