@@ -49,7 +49,7 @@ impl Stream {
     }
 
     // Squeezes the next block, unless there is none left.
-    #[tactic(auto, using(keccak::proofs::Streams::permuted_more))]
+    #[tactic(auto, using(crate::proofs::Squeezing::squeezed_more))]
     fn squeeze(&mut self) -> Option<()>
         requires { self.old.offset ≡ 168 }
         ensures seeded { self.new.seed.value ≡ self.old.seed.value }
