@@ -12,6 +12,7 @@ use ring::Fault;
 const ROOM: usize = 1024;
 
 // The element of the seed.
+#[tactic(auto, using(profile::proofs::Ranges::n_most, crate::proofs::Ranges::q_least))]
 pub fn derive<P: Profile, S: ByteSource>(
     source: &mut S,
     seed: &[u8; 16],
