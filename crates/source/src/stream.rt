@@ -12,8 +12,8 @@ const BLOCK: usize = 168;
 // The blocks of a stream.
 const BLOCKS: usize = 24;
 
-// Of the last block that was squeezed, the bytes before `offset` are given; `left` blocks are still to be squeezed. Clauses
-// alone know the seed.
+// What a seed gives. `left` blocks are still to be squeezed, and of the last one that was squeezed the bytes from `offset` on
+// are still to be given. Only clauses read `seed`.
 #[derive(Drop)]
 pub(crate) struct Stream {
     seed: Snapshot<[u8; 16]>,
@@ -33,7 +33,7 @@ impl Stream {
     ghost use Rattle.source.specs.Sources.{Gives};
     ghost use Rattle.source.specs.Shakes.{stream_position, stream_bytes};
 
-    // The start of a seed's stream: all of its blocks are still to come.
+    // At the start: the seed is absorbed, and nothing is squeezed yet.
     #[tactic(auto, using(keccak::proofs::Streams::permuted_none))]
     pub(crate) fn of(seed: &[u8; 16]) -> Self
         ensures seeded { result.seed.value ≡ seed.now }
