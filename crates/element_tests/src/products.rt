@@ -31,9 +31,7 @@ fn turns_by_x<M: Multiplier>(rt: &impl Abort, multiplier: &mut M) {
 
 #[test]
 fn worked_product(rt: HostRuntime) -> Result<(), Fail> {
-    let Some(ring) = QuotientRing::new(4, 257) else {
-        return Err(Fail::new("no ring"));
-    };
+    let ring = QuotientRing::new(4, 257).ok_or("no ring")?;
     turns_by_x(&rt, &mut Schoolbook::new(ring));
     turns_by_x(&rt, &mut RowSum::new(ring));
     Ok(())
@@ -57,9 +55,7 @@ fn multiplies_the_largest<M: Multiplier>(rt: &impl Abort, multiplier: &mut M) {
 
 #[test]
 fn largest_numbers_of_the_largest_ring(rt: HostRuntime) -> Result<(), Fail> {
-    let Some(ring) = QuotientRing::new(1024, 8388607) else {
-        return Err(Fail::new("no ring"));
-    };
+    let ring = QuotientRing::new(1024, 8388607).ok_or("no ring")?;
     multiplies_the_largest(&rt, &mut Schoolbook::new(ring));
     multiplies_the_largest(&rt, &mut RowSum::new(ring));
     Ok(())
@@ -79,92 +75,55 @@ fn refuses<M: Multiplier>(
     let mut output = [7; 5];
     assert!(rt; words <= 12 && places <= 5);
     assert_eq!(rt;
-        multiplier.multiply(left, right, &mut scratch[0..words], &mut output[0..places]),
+        multiplier.multiply(left, right, &mut scratch[..words], &mut output[..places]),
         Err(fault)
     );
     assert_eq!(rt; output, [7; 5]);
-    for (i, word) in scratch.iter().enumerate() {
-        let expected = if i < words { 0 } else { 9 };
-        assert_eq!(rt;
-            *word,
-            expected,
-            "word {i} of scratch, {words} words of it given"
-        );
-    }
+    let mut expected = [9; 12];
+    expected[..words].fill(0);
+    assert_eq!(rt; scratch, expected, "{words} words of scratch given");
 }
 
 #[test]
 fn lengths_are_tried_in_order_before_numbers(rt: HostRuntime) -> Result<(), Fail> {
-    let Some(ring) = QuotientRing::new(4, 257) else {
-        return Err(Fail::new("no ring"));
-    };
+    let ring = QuotientRing::new(4, 257).ok_or("no ring")?;
     let bad = [257; 5];
     let m = &mut RowSum::new(ring);
     assert_eq!(rt; m.scratch_words(), 8);
-    refuses(&rt, m, &bad, &bad, 7, 3, Fault::WrongLength(1));
-    refuses(&rt, m, &bad[0..3], &bad[0..4], 8, 4, Fault::WrongLength(1));
-    refuses(&rt, m, &[], &[], 0, 0, Fault::WrongLength(1));
-    refuses(&rt, m, &bad[0..4], &bad, 7, 3, Fault::WrongLength(2));
-    refuses(&rt, m, &bad[0..4], &bad[0..4], 7, 3, Fault::WrongLength(3));
-    refuses(&rt, m, &bad[0..4], &bad[0..4], 8, 3, Fault::WrongLength(4));
-    refuses(&rt, m, &bad[0..4], &bad[0..4], 8, 5, Fault::WrongLength(4));
+    for (left, right, words, places, place) in [
+        (5, 5, 7, 3, 1),
+        (3, 4, 8, 4, 1),
+        (0, 0, 0, 0, 1),
+        (4, 5, 7, 3, 2),
+        (4, 4, 7, 3, 3),
+        (4, 4, 8, 3, 4),
+        (4, 4, 8, 5, 4),
+    ] {
+        assert!(rt; left <= 5 && right <= 5);
+        let fault = Fault::WrongLength(place);
+        refuses(&rt, m, &bad[..left], &bad[..right], words, places, fault);
+    }
     Ok(())
 }
 
 #[test]
 fn first_number_not_below_q_is_named(rt: HostRuntime) -> Result<(), Fail> {
-    let Some(ring) = QuotientRing::new(4, 257) else {
-        return Err(Fail::new("no ring"));
-    };
+    let ring = QuotientRing::new(4, 257).ok_or("no ring")?;
     let m = &mut RowSum::new(ring);
-    refuses(&rt, m, &[257; 4], &[257; 4], 12, 4, Fault::OutOfRange(0));
-    refuses(
-        &rt,
-        m,
-        &[0, 256, 256, 257],
-        &[257; 4],
-        8,
-        4,
-        Fault::OutOfRange(3),
-    );
-    refuses(
-        &rt,
-        m,
-        &[256; 4],
-        &[257, 0, 0, 0],
-        8,
-        4,
-        Fault::OutOfRange(4),
-    );
-    refuses(
-        &rt,
-        m,
-        &[256; 4],
-        &[0, 1, u32::MAX, 257],
-        8,
-        4,
-        Fault::OutOfRange(6),
-    );
+    for (left, right, words, place) in [
+        ([257; 4], [257; 4], 12, 0),
+        ([0, 256, 256, 257], [257; 4], 8, 3),
+        ([256; 4], [257, 0, 0, 0], 8, 4),
+        ([256; 4], [0, 1, u32::MAX, 257], 8, 6),
+    ] {
+        refuses(&rt, m, &left, &right, words, 4, Fault::OutOfRange(place));
+    }
     let s = &mut Schoolbook::new(ring);
     assert_eq!(rt; s.scratch_words(), 0);
-    refuses(
-        &rt,
-        s,
-        &[256; 4],
-        &[0, 0, 0, 257],
-        0,
-        4,
-        Fault::OutOfRange(7),
-    );
+    let right = [0, 0, 0, 257];
     // It zeroes scratch that it does not need.
-    refuses(
-        &rt,
-        s,
-        &[256; 4],
-        &[0, 0, 0, 257],
-        5,
-        4,
-        Fault::OutOfRange(7),
-    );
+    for words in [0, 5] {
+        refuses(&rt, s, &[256; 4], &right, words, 4, Fault::OutOfRange(7));
+    }
     Ok(())
 }

@@ -29,14 +29,14 @@ fn shake_gives_twenty_four_blocks(rt: HostRuntime) -> Result<(), Fail> {
     assert_eq!(rt; source.next(), None, "it has not begun");
     source.begin(&SEED);
     let mut bytes = [0; 4032];
-    for byte in bytes.iter_mut() {
+    for byte in &mut bytes {
         *byte = source.next().ok_or("used up too soon")?;
     }
     assert_eq!(rt; source.next(), None);
     assert_eq!(rt; source.next(), None);
-    assert_eq!(rt; &bytes[0..4], [152, 72, 25, 70].as_slice());
+    assert_eq!(rt; &bytes[..4], [152, 72, 25, 70].as_slice());
     assert_eq!(rt; &bytes[166..170], [67, 201, 218, 94].as_slice());
-    assert_eq!(rt; &bytes[4030..4032], [173, 129].as_slice());
+    assert_eq!(rt; &bytes[4030..], [173, 129].as_slice());
     Ok(())
 }
 
@@ -49,8 +49,8 @@ fn shake_begins_anew(rt: HostRuntime) {
         source.begin(&other);
         assert!(rt; source.next().is_some());
         source.begin(&SEED);
-        for byte in whole.iter() {
-            assert_eq!(rt; source.next(), Some(*byte));
+        for byte in whole {
+            assert_eq!(rt; source.next(), Some(byte));
         }
     }
 }

@@ -4,9 +4,10 @@ use native.Mathlib.Nat.{div-eq_of_lt, div-eq-sub-div}
 use lib.Bits.{bit_or}
 use Rattle.std.specs.List.{range_with_len}
 use Rattle.std.proofs.lemmas.Nat.{pow-add, shl_whole, or_comm, or_shifted, mul-le}
-use Rattle.std.proofs.lemmas.List.{take_more, length-take-le, length-drop, get_or-drop, drop-drop}
+use Rattle.std.proofs.lemmas.List.{take_more, drop_more, length-take-le, length-drop, get_or-drop, drop-drop}
 use Rattle.keccak.specs.Sponge.{little_endian}
-use Rattle.source.specs.Derivation.{groups}
+use Rattle.source.specs.Sources.{Byte, UsedUp}
+use Rattle.source.specs.Derivation.{groups, WholeGroup}
 
 pub little_endian_push : (bytes : List ℕ) (b : ℕ) → little_endian (bytes ++ b ∷ []) ≡ little_endian bytes + b * 2 ^ (8 * length bytes)
 little_endian_push [] b = omega arith
@@ -35,14 +36,31 @@ module _ (number b i : ℕ) (low : number < 2 ^ (8 * i)) (byte : b < 256) (few :
       let room : (b + 1) * 2 ^ (8 * i) ≤ 256 * 2 ^ (8 * i) = mul-le (b + 1) (2 ^ (8 * i)) 256 (2 ^ (8 * i)) (omega arith) (omega arith) in
       rw (or_byte, next) (omega (arith, room, add-mul b 1 (2 ^ (8 * i))))
 
-module _ (bytes : List ℕ) (position i : ℕ) (inside : position + i < length bytes) where
-  pub ahead_more : i < length (drop position bytes)
-  ahead_more = simp length-drop (omega arith)
+-- a byte that is given is the first of those ahead
+pub byte_ahead : (bytes now : List ℕ) (position b end : ℕ) → now ≡ bytes → Byte bytes position b end → drop position bytes ≡ b ∷ drop end now
+byte_ahead bytes now position b end same given = rw (same, given.moves, given.value) (drop_more bytes position 0 given.inside)
 
-  pub group_more : (number b : ℕ) → number ≡ little_endian (take i (drop position bytes)) → b ≡ get_or bytes (position + i) 0 → number + b * 2 ^ (8 * i) ≡ little_endian (take (i + 1) (drop position bytes))
-  group_more number b is at =
-      let here : b ≡ get_or (drop position bytes) i 0 = at ∙ sym (get_or-drop position bytes i 0) in
-      rw (is, here) (sym (little_endian_more (drop position bytes) i ahead_more))
+-- a group is cut short where the bytes are used up
+pub group_short : (i c : ℕ) (bytes : List ℕ) (x : ℕ) (old : List ℕ) (position end : ℕ) → WholeGroup i bytes x (drop position old) → UsedUp old position end → i < c → length bytes < c
+group_short i c bytes x old position end group used h =
+    omega (arith, length-drop i bytes, length-drop position old, ap (λ (xs : List ℕ). length xs) group.after, used.spent, group.whole)
+
+-- one more byte of a group
+module _ (i : ℕ) (bytes : List ℕ) (x : ℕ) (rest : List ℕ) (group : WholeGroup i bytes x rest) (b : ℕ) (more : List ℕ) (first : rest ≡ b ∷ more) where
+  front : drop i bytes ≡ b ∷ more
+  front = sym group.after ∙ first
+
+  inside : i < length bytes
+  inside = omega (arith, length-drop i bytes, ap (λ (xs : List ℕ). length xs) front)
+
+  pub group_more : WholeGroup (i + 1) bytes (x + b * 2 ^ (8 * i)) more
+  group_more =
+      let here : get_or bytes i 0 ≡ b = ap (λ n. get_or bytes n 0) (omega arith) ∙ sym (get_or-drop i bytes 0 0) ∙ ap (λ (xs : List ℕ). get_or xs 0 0) front in
+      record {
+        whole = omega (arith, inside);
+        value = rw (group.value, sym here) (sym (little_endian_more bytes i inside));
+        after = ap (drop 1) (sym front) ∙ drop-drop 1 i bytes;
+      }
 
 -- ---- the groups of a list
 

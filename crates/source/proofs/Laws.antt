@@ -7,10 +7,10 @@ use Rattle.std.proofs.lemmas.List.Elements.{All-take, All-weaker, filter_passes,
 use Rattle.std.proofs.lemmas.List.{length-append, length-drop, length-take, length-take-le, map-append, take-append-le, drop-append-le}
 use Rattle.std.proofs.lemmas.Bool.{cases_lt, cond_both, eqb-true, eqb-false, leb-true, leb-false, ltb-true}
 use Rattle.keccak.specs.Sponge.{little_endian}
-use Rattle.source.specs.Derivation.{bits, groups, candidates, kept, derived, derive_answer}
+use Rattle.source.specs.Derivation.{bits, bytes_for, groups, candidates, kept, derived, derive_answer}
 use Rattle.source.specs.Laws.{DeriveMeans}
 use Rattle.source.proofs.Groups.{groups_none, groups_more}
-use Rattle.source.proofs.Keeping.{group_bytes, bits_some}
+use Rattle.source.proofs.Keeping.{bits_some}
 
 pub kept_below : (q : ℕ) (bytes : List ℕ) → All (λ x. x < q) (kept q bytes)
 unfolding kept
@@ -51,7 +51,7 @@ groups_append c some (suc m) bytes more is =
 kept_append : (q : ℕ) → 1 < q → (bytes more : List ℕ) → (rest : List ℕ) × (kept q (bytes ++ more) ≡ kept q bytes ++ rest)
 unfolding kept candidates
 kept_append q least bytes more =
-    let c = group_bytes q in
+    let c = bytes_for (bits (q - 1)) in
     let low : ℕ → ℕ = λ x. x % 2 ^ bits (q - 1) in
     let after = groups_append c (omega (arith, bits_some q least)) (length bytes / c) bytes more refl in (
       filter (λ x. ltb x q) (map low after.0),

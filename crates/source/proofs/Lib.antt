@@ -4,3 +4,4 @@ pub mod Keeping
 pub mod Ranges
 pub mod Laws
 pub mod Squeezing
+pub mod Ends

@@ -1,29 +1,37 @@
--- Where a byte of a squeezed block stands in the output.
-use Rattle.std.proofs.Common.{◌≡◌, ℕ, ◌+◌, ◌-◌, ◌*◌, ◌/◌, ◌%◌, ◌<◌, ◌≤◌, List, [], length, get_or, sym, ap, ◌∙◌, arith}
-use Rattle.std.proofs.lemmas.List.{nil_from_length}
+-- Where a byte of a stream's block stands in the output.
+use Rattle.std.proofs.Common.{◌≡◌, ℕ, ◌+◌, ◌-◌, ◌*◌, ◌/◌, ◌%◌, ◌<◌, ◌≤◌, List, get_or, sym, ap, ◌∙◌, ⊎_elim, arith}
+use Rattle.std.proofs.lemmas.Bool.{cases_lt}
 use Rattle.keccak.specs.Laws.{permuted}
-use Rattle.keccak.specs.Sponge.{absorbed, output_block, shake128}
-use Rattle.keccak.proofs.Streams.{length_shake128, shake128_byte}
+use Rattle.keccak.specs.Sponge.{absorbed, output_block}
+use Rattle.keccak.proofs.Streams.{length_shake128, permuted_more, shake128_byte}
+use Rattle.keccak.specs.Permutation.{keccak_f}
+use Rattle.source.specs.Sources.{Byte, UsedUp}
+use Rattle.source.specs.Shakes.{stream_bytes, stream_position}
+use Rattle.source.specs.declared.stream.Stream.{Stream}
 
--- byte `offset` of the last of so many blocks
-module _ (seed : List ℕ) (limit blocks offset : ℕ) (some : 0 < blocks) (within : blocks ≤ limit) (inside : offset < 168) where
-  pub byte_inside : 168 * blocks + offset - 168 < length (shake128 seed (168 * limit))
-  byte_inside = rw (length_shake128 seed (168 * limit)) (omega arith)
+-- after one more block
+pub squeezed_more : (left rest : ℕ) (state : List ℕ) → left ≤ 24 → 1 ≤ left → rest ≡ left - 1 → permuted (24 - rest) state ≡ keccak_f (permuted (24 - left) state)
+squeezed_more left rest state within some is = ap (λ n. permuted n state) (omega arith) ∙ permuted_more (24 - left) state
 
-  pub byte_value : (block : List ℕ) → block ≡ output_block (permuted (blocks - 1) (absorbed seed)) → get_or block offset 0 ≡ get_or (shake128 seed (168 * limit)) (168 * blocks + offset - 168) 0
-  byte_value block is =
-      let k = 168 * blocks + offset - 168 in
-      let number : blocks - 1 ≡ k / 168 = omega arith in
-      let place : offset ≡ k % 168 = omega arith in
-      ap (λ (xs : List ℕ). get_or xs offset 0) is
-      ∙ ap (λ n. get_or (output_block (permuted n (absorbed seed))) offset 0) number
-      ∙ ap (λ n. get_or (output_block (permuted (k / 168) (absorbed seed))) n 0) place
-      ∙ sym (shake128_byte seed (168 * limit) k (omega arith))
+module _ (old : Stream) (s : Stream) (seeded : s.seed.value ≡ old.seed.value) (stays : stream_position s ≡ stream_position old) where
+  -- the byte at the offset is the next one
+  pub byte_next : s.offset < 168 → Byte (stream_bytes old) (stream_position old) (get_or s.block s.offset 0) (4032 - (168 * s.left + (168 - (s.offset + 1))))
+  byte_next more =
+      let k = stream_position s in
+      let begun : s.left < 24 = ⊎_elim (λ lt. lt) (λ all. absurd (omega (arith, s.unread (omega (arith, s.within, all))))) (cases_lt s.left 24) in
+      let inside : k < 4032 = omega (arith, begun) in
+      let number : 23 - s.left ≡ k / 168 = omega arith in
+      let place : s.offset ≡ k % 168 = omega arith in
+      rw (sym seeded, sym stays) (record {
+        inside = rw (length_shake128 s.seed.value 4032) inside;
+        value =
+            ap (λ (xs : List ℕ). get_or xs s.offset 0) (s.last begun)
+            ∙ ap (λ n. get_or (output_block (permuted n (absorbed s.seed.value))) s.offset 0) number
+            ∙ ap (λ n. get_or (output_block (permuted (k / 168) (absorbed s.seed.value))) n 0) place
+            ∙ sym (shake128_byte s.seed.value 4032 k inside);
+        moves = omega arith;
+      })
 
--- all the blocks have been given
-pub all_given : (seed : List ℕ) (limit blocks offset : ℕ) → limit ≤ blocks → offset ≡ 168 → length (shake128 seed (168 * limit)) ≤ 168 * blocks + offset - 168
-all_given seed limit blocks offset last full = rw (length_shake128 seed (168 * limit)) (omega arith)
-
--- there is nothing to give of no blocks
-pub nothing_read : (seed : List ℕ) (limit : ℕ) → limit ≡ 0 → shake128 seed (168 * limit) ≡ []
-nothing_read seed limit none = nil_from_length _ (length_shake128 seed (168 * limit) ∙ omega arith)
+  -- there is none where no block is left
+  pub none_next : old.offset ≡ 168 → old.left ≡ 0 → UsedUp (stream_bytes old) (stream_position old) (stream_position s)
+  none_next full last = record { spent = rw (length_shake128 old.seed.value 4032) (omega arith); stays = stays }

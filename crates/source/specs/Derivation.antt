@@ -44,14 +44,14 @@ keep_answer n numbers = checked (nat_le n (length numbers)) (SourceSpent (length
 abbrev pub derive_answer : ℕ → ℕ → List ℕ → ℕ → Result (Unit {0}) Fault
 derive_answer n q bytes places = checked (places == n) (WrongLength 4) (keep_answer n (kept q bytes))
 
--- ---- one group, from a position on
+-- ---- the group at the front of a list
 
--- the next c bytes are there, and give a number
-pub record WholeGroup (c : ℕ) (bytes : List ℕ) (position x end : ℕ) : Type 0 where
-  pub whole : c ≤ length (drop position bytes)
-  pub value : x ≡ little_endian (take c (drop position bytes))
-  pub moves : end ≡ position + c
+-- its c bytes are there, and give a number
+pub record WholeGroup (c : ℕ) (bytes : List ℕ) (x : ℕ) (rest : List ℕ) : Type 0 where
+  pub whole : c ≤ length bytes
+  pub value : x ≡ little_endian (take c bytes)
+  pub after : rest ≡ drop c bytes
 
-abbrev pub GivesGroup : ℕ → List ℕ → ℕ → Option ℕ → ℕ → Type 0
-GivesGroup c bytes position (Some x) end = WholeGroup c bytes position x end
-GivesGroup c bytes position None end = length (drop position bytes) < c
+abbrev pub GivesGroup : ℕ → List ℕ → Option ℕ → List ℕ → Type 0
+GivesGroup c bytes (Some x) rest = WholeGroup c bytes x rest
+GivesGroup c bytes None rest = length bytes < c

@@ -1,4 +1,5 @@
 pub mod Sources
+pub mod Reading
 pub mod Tapes
 pub mod Derivation
 pub mod Laws

@@ -7,7 +7,7 @@ pub fn bit_count(m: u32) -> u32
     ensures value { result ≡ bits m }
     ensures is_bit_count { IsBitCount m result }
 {
-    32 - m.leading_zeros()
+    u32::BITS - m.leading_zeros()
 }
 
 // The low bits of a number.

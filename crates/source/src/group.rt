@@ -1,6 +1,7 @@
 // The numbers that a source's bytes write.
 ghost use Rattle.std.specs.Prelude.{◌≡◌, ◌≤◌};
 ghost use Rattle.source.specs.Derivation.{GivesGroup};
+ghost use Rattle.source.specs.Reading.{ahead};
 
 use crate::source::ByteSource;
 
@@ -8,8 +9,7 @@ use crate::source::ByteSource;
 pub(crate) fn next_number<S: ByteSource>(source: &mut S, bytes: u32) -> Option<u32>
     requires { bytes ≤ 4 }
     ensures means { S.meaning source.new ≡ S.meaning source.old }
-    ensures reads { S.reading source.new ≡ S.reading source.old }
-    ensures gives { GivesGroup bytes (S.reading source.old) (S.position source.old) result (S.position source.new) }
+    ensures gives { GivesGroup bytes (ahead S.ByteSource source.old) result (ahead S.ByteSource source.new) }
 {
     let mut number = 0;
     for i in 0..bytes {

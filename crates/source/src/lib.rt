@@ -4,9 +4,10 @@
 mod bits;
 mod derivation;
 mod group;
+mod sampler;
 mod shake;
-mod shake_bytes;
 mod source;
+mod stream;
 mod tape;
 mod theorems;
 

@@ -1,24 +1,40 @@
-// SHAKE128 of the seed, a block at a time.
-ghost use Rattle.std.specs.Prelude.{◌≡◌, ◌-◌, ◌<◌, ◌≤◌};
-ghost use Rattle.keccak.specs.Laws.{permuted};
-ghost use Rattle.keccak.specs.Sponge.{absorbed, next_state, output_block};
+// A byte source that gives SHAKE128 of the seed.
+ghost use Rattle.std.specs.Prelude.{◌≡◌, ℕ, List, []};
+ghost use Rattle.keccak.specs.Sponge.{shake128};
+ghost use Rattle.source.specs.Shakes.{shake_meaning, shake_reading, shake_position};
 
-use keccak::Shake128;
+use crate::source::ByteSource;
+use crate::stream::Stream;
 
-// Reads `limit` blocks of 168 bytes, of which there are none before the first seed. `blocks` of them have been squeezed, and
-// `offset` bytes of the last of these given.
+// Reads the stream of the last seed, of which there is none before the first.
 #[derive(Drop)]
 pub struct ShakeSource {
-    pub(crate) seed: [u8; 16],
-    pub(crate) limit: usize,
-    pub(crate) sponge: Shake128,
-    pub(crate) block: [u8; 168],
-    pub(crate) blocks: usize,
-    pub(crate) offset: usize,
-    ghost cut: { limit ≤ 24 },
-    ghost within: { blocks ≤ limit },
-    ghost inside: { offset ≤ 168 },
-    ghost unread: { blocks ≡ 0 → offset ≡ 168 },
-    ghost squeezed: { next_state sponge ≡ permuted blocks (absorbed seed) },
-    ghost last: { 0 < blocks → block ≡ output_block (permuted (blocks - 1) (absorbed seed)) },
+    stream: Option<Stream>,
+}
+
+impl ShakeSource {
+    // Has nothing to give before it begins.
+    pub fn new() -> Self
+        ensures means { (seed : List ℕ) → shake_meaning result seed ≡ shake128 seed 4032 }
+        ensures unread { shake_reading result ≡ [] }
+        ensures starts { shake_position result ≡ 0 }
+    {
+        ShakeSource { stream: None }
+    }
+}
+
+impl ByteSource for ShakeSource {
+    ghost meaning = { shake_meaning };
+
+    ghost reading = { shake_reading };
+
+    ghost position = { shake_position };
+
+    fn begin(&mut self, seed: &[u8; 16]) {
+        self.stream = Some(Stream::of(seed));
+    }
+
+    fn next(&mut self) -> Option<u8> {
+        self.stream.as_mut()?.next()
+    }
 }

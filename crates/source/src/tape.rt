@@ -1,32 +1,35 @@
 // The same bytes for every seed.
-ghost use Rattle.std.specs.Prelude.{◌≡◌, ℕ, List, []};
-ghost use Rattle.source.specs.Tapes.{tape_meaning, tape_reading, tape_position};
+ghost use Rattle.std.specs.Prelude.{◌≡◌, ◌-◌, ℕ, List, [], length, drop};
+ghost use Rattle.std.specs.Option.{ForSome};
+ghost use Rattle.std.specs.Slice.Iter.{iter_rest};
 
 use crate::source::ByteSource;
+use std::slice::Iter;
 
+// Gives nothing before it begins; then `ahead` goes over its bytes.
 #[derive(Drop)]
 pub struct Tape<'a> {
     bytes: &'a [u8],
-    reading: &'a [u8],
-    position: usize,
+    ahead: Option<Iter<'a, u8>>,
+    ghost is_end: { ForSome ahead (λ it. iter_rest it ≡ drop (length bytes.now - length (iter_rest it)) bytes.now) },
 }
 
 impl<'a> Tape<'a> {
+    ghost use Rattle.source.specs.Tapes.{tape_meaning, tape_reading, tape_position};
+
     // Has nothing to give before it begins.
     pub fn new(bytes: &'a [u8]) -> Self
         ensures means { (seed : List ℕ) → tape_meaning result seed ≡ bytes.now }
         ensures unread { tape_reading result ≡ [] }
         ensures starts { tape_position result ≡ 0 }
     {
-        Tape {
-            bytes,
-            reading: &[],
-            position: 0,
-        }
+        Tape { bytes, ahead: None }
     }
 }
 
 impl<'a> ByteSource for Tape<'a> {
+    ghost use Rattle.source.specs.Tapes.{tape_meaning, tape_reading, tape_position};
+
     ghost meaning = { tape_meaning };
 
     ghost reading = { tape_reading };
@@ -34,13 +37,11 @@ impl<'a> ByteSource for Tape<'a> {
     ghost position = { tape_position };
 
     fn begin(&mut self, _seed: &[u8; 16]) {
-        self.reading = self.bytes;
-        self.position = 0;
+        self.ahead = Some(self.bytes.iter());
     }
 
+    #[tactic(auto, using(crate::proofs::Ends::end_more))]
     fn next(&mut self) -> Option<u8> {
-        let byte = *self.reading.get(self.position)?;
-        self.position += 1;
-        Some(byte)
+        self.ahead.as_mut()?.next().copied()
     }
 }

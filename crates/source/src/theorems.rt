@@ -2,6 +2,7 @@
 ghost use Rattle.source.specs.Laws.{DerivationLaws, DerivationValues};
 
 // An element has n numbers, each below q, and more bytes than suffice change nothing. A refusal says why there is no element.
+#[tactic(auto, using(crate::proofs::Laws::derive_means, crate::proofs::Laws::derived_stable))]
 pub fn derivation_laws()
     ensures { DerivationLaws }
 {}

@@ -1,31 +1,24 @@
-use Rattle.std.proofs.Common.{◌≡◌, ℕ, ◌+◌, ◌<◌, List, length, get_or, ap, ◌∙◌, arith}
-use Rattle.source.proofs.Groups.{or_byte, or_byte_below, ahead_more, group_more}
+use Rattle.std.proofs.Common.{◌≡◌, ◌<◌, ◌∷◌, arith, ◌∙◌}
+use Rattle.source.specs.Reading.{ahead}
+use Rattle.source.proofs.Groups.{byte_ahead, group_short, group_more, or_byte, or_byte_below}
 use Rattle.source.proofs.group.next_number.Goals as goal
+
+pub returns-in_err-byte-clause-gives : goal.returns-in_err-byte-clause-gives
+returns-in_err-byte-clause-gives g c =
+    rw c.from_residual.ensures (group_short c.loop-i.i _ _ _ _ _ _ c.loop-i.invariant.group c.in_err-byte.ensures.gives (omega arith))
 
 pub loop-i-preserved : goal.loop-i-preserved
 loop-i-preserved g c =
     let s = g.S.ByteSource in
-    let f = c.in_ok-byte.ensures in
     let inv = c.loop-i.invariant in
-    let bytes = s.reading c.args.source.now in
-    let position = s.position c.args.source.now in
-    let i = c.loop-i.i in
-    let number = c.loop-i.number in
-    let b = c.from.result in
-    let long = ap (λ (xs : List ℕ). length xs) inv.reads in
-    let inside : position + i < length bytes = omega (arith, long, f.gives.inside, inv.moves) in
-    let at : b ≡ get_or bytes (position + i) 0 =
-    c.from.ensures ∙ f.gives.value
-    ∙ ap (λ (xs : List ℕ). get_or xs (s.position c.loop-i.source) 0) inv.reads
-    ∙ ap (λ k. get_or bytes k 0) inv.moves
-    in
+    let f = c.in_ok-byte.ensures in
+    let b = c.in_ok-byte.byte in
+    let first : ahead s c.loop-i.source ≡ b ∷ ahead s c.next.new.self = byte_ahead _ _ _ _ _ f.reads f.gives in
+    let same : c.from.result ≡ b = c.from.ensures in
     let byte : b < 256 = omega arith in
-    let few : i < 4 = omega arith in
+    let few : c.loop-i.i < 4 = omega arith in
     record {
       means = f.means ∙ inv.means;
-      reads = f.reads ∙ inv.reads;
-      moves = omega (arith, f.gives.moves, inv.moves);
-      inside = omega (arith, ahead_more bytes position i inside);
-      value = or_byte number b i inv.low byte few ∙ group_more bytes position i inside number b inv.value at;
-      low = or_byte_below number b i inv.low byte few;
+      group = rw (same, or_byte c.loop-i.number b c.loop-i.i inv.low byte few) (group_more _ _ _ _ inv.group b _ first);
+      low = rw same (or_byte_below c.loop-i.number b c.loop-i.i inv.low byte few);
     }

@@ -1,0 +1,13 @@
+use Rattle.std.proofs.Common.{◌≡◌, ◌++◌, take}
+use Rattle.source.specs.Derivation.{kept}
+use Rattle.source.specs.Reading.{ahead}
+use Rattle.source.proofs.sampler.Sampler.fill.Given as goal
+
+-- what is kept so far, with what is still to come, is all that there is to keep
+abbrev pub invariant-loop-count : goal.invariant-loop-count
+invariant-loop-count g l =
+    let s = g.S.ByteSource in
+    record {
+      means : s.meaning l.source ≡ s.meaning l.initial.source;
+      so_far : take l.count l.numbers ++ kept l.self.q (ahead s l.source) ≡ kept l.self.q (ahead s l.initial.source);
+    }

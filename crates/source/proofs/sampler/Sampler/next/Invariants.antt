@@ -1,0 +1,16 @@
+use Rattle.std.proofs.Common.{◌≡◌, length}
+use Rattle.source.specs.Derivation.{kept}
+use Rattle.source.specs.Reading.{ahead}
+use Rattle.source.proofs.sampler.Sampler.next.Given as goal
+
+-- the groups so far gave nothing that is kept
+abbrev pub invariant-loop-number : goal.invariant-loop-number
+invariant-loop-number g l =
+    let s = g.S.ByteSource in
+    record {
+      means : s.meaning l.source ≡ s.meaning l.initial.source;
+      keeps : kept l.self.q (ahead s l.source) ≡ kept l.self.q (ahead s l.initial.source);
+    }
+
+abbrev pub decreases-loop-number : goal.decreases-loop-number
+decreases-loop-number g l = length (ahead g.S.ByteSource l.source)
