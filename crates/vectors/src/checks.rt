@@ -65,18 +65,31 @@ fn check_output(alloc: Global, numbers: &[u32]) -> anyhow::Result<bool>
     Ok(hashes_to(&message, &expected, &mut output))
 }
 
-// Whether a multiplier accepts two elements and gives the expected product.
-fn multiplies_to<M: Multiplier>(
-    multiplier: &mut M,
-    left: &[u32],
-    right: &[u32],
-    expected: &[u32],
-    scratch: &mut [u32],
-    output: &mut [u32],
-) -> bool
-    ensures { result ≡ true → product (M.n multiplier.old) (M.q multiplier.old) left.now right.now ≡ expected.now }
-{
-    multiplier.multiply(left, right, scratch, output).is_ok() && &output[..] == expected
+// Two elements, and what their product is expected to be.
+#[derive(Clone, Copy)]
+struct ExpectedProduct<'a> {
+    left: &'a [u32],
+    right: &'a [u32],
+    product: &'a [u32],
+}
+
+impl ExpectedProduct<'_> {
+    // Whether a multiplier accepts the elements and gives that product.
+    fn is_given_by<M: Multiplier>(
+        &self,
+        multiplier: &mut M,
+        scratch: &mut [u32],
+        output: &mut [u32],
+    ) -> bool
+        ensures { let expected = self.now in result ≡ true
+            → product (M.n multiplier.old) (M.q multiplier.old) expected.left.now expected.right.now
+            ≡ expected.product.now }
+    {
+        multiplier
+            .multiply(self.left, self.right, scratch, output)
+            .is_ok()
+            && &output[..] == self.product
+    }
 }
 
 #[tactic(auto, using(std::proofs::lemmas::List::take_all))]
@@ -91,31 +104,20 @@ fn check_product(alloc: Global, numbers: &[u32]) -> anyhow::Result<bool>
         bail!(MALFORMED);
     }
     let (left, rest) = rest.split_at(n);
-    let (right, expected) = rest.split_at(n);
+    let (right, product) = rest.split_at(n);
+    let expected = ExpectedProduct {
+        left,
+        right,
+        product,
+    };
     let Some(ring) = QuotientRing::new(n, *q) else {
         return Ok(false);
     };
     let mut scratch = vec![in alloc; 0u32; 2 * n]?;
     let mut output = vec![in alloc; 0u32; n]?;
-    let mut schoolbook = Schoolbook::new(ring);
-    let by_schoolbook = multiplies_to(
-        &mut schoolbook,
-        left,
-        right,
-        expected,
-        &mut scratch,
-        &mut output,
-    );
+    let by_schoolbook = expected.is_given_by(&mut Schoolbook::new(ring), &mut scratch, &mut output);
     output.fill(0);
-    let mut row_sum = RowSum::new(ring);
-    let by_row_sum = multiplies_to(
-        &mut row_sum,
-        left,
-        right,
-        expected,
-        &mut scratch,
-        &mut output,
-    );
+    let by_row_sum = expected.is_given_by(&mut RowSum::new(ring), &mut scratch, &mut output);
     Ok(by_schoolbook && by_row_sum)
 }
 
