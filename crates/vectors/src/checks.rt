@@ -10,10 +10,9 @@ ghost use Rattle.vectors.specs.Holding.{RoundedHolds, ReconciledHolds, ReadHolds
 use crate::line::Group;
 use anyhow::bail;
 use exports::{
-    DONE, exported_derive_shake, exported_read, exported_reconcile, exported_recover,
-    exported_round, exported_shake128,
+    DONE, exported_derive_shake, exported_multiply, exported_read, exported_reconcile,
+    exported_recover, exported_round, exported_shake128,
 };
-use multiplier::{Multiplier, QuotientRing, RowSum, Schoolbook};
 use std::alloc::Global;
 
 const MALFORMED: &str = "a line of the wrong length";
@@ -65,29 +64,31 @@ fn check_output(alloc: Global, numbers: &[u32]) -> anyhow::Result<bool>
     Ok(hashes_to(&message, &expected, &mut output))
 }
 
-// Two elements, and what their product is expected to be.
+// How to multiply: `as u8` gives the number that the exported function has for it.
+#[derive(Clone, Copy)]
+enum Method {
+    Schoolbook,
+    RowSum,
+}
+
+// Two elements modulo q, and what their product is expected to be.
 #[derive(Clone, Copy)]
 struct ExpectedProduct<'a> {
+    q: u32,
     left: &'a [u32],
     right: &'a [u32],
     product: &'a [u32],
 }
 
 impl ExpectedProduct<'_> {
-    // Whether a multiplier accepts the elements and gives that product.
-    fn is_given_by<M: Multiplier>(
-        &self,
-        multiplier: &mut M,
-        scratch: &mut [u32],
-        output: &mut [u32],
-    ) -> bool
+    // Whether the elements are accepted and multiplied to that product.
+    fn is_given_by(&self, method: Method, scratch: &mut [u32], output: &mut [u32]) -> bool
         ensures { let expected = self.now in result ≡ true
-            → product (M.n multiplier.old) (M.q multiplier.old) expected.left.now expected.right.now
+            → product (length expected.left.now) expected.q expected.left.now expected.right.now
             ≡ expected.product.now }
     {
-        multiplier
-            .multiply(self.left, self.right, scratch, output)
-            .is_ok()
+        let (row_sum, n) = (method as u8, self.left.len());
+        exported_multiply(row_sum, n, self.q, self.left, self.right, scratch, output) == DONE
             && &output[..] == self.product
     }
 }
@@ -106,18 +107,16 @@ fn check_product(alloc: Global, numbers: &[u32]) -> anyhow::Result<bool>
     let (left, rest) = rest.split_at(n);
     let (right, product) = rest.split_at(n);
     let expected = ExpectedProduct {
+        q: *q,
         left,
         right,
         product,
     };
-    let Some(ring) = QuotientRing::new(n, *q) else {
-        return Ok(false);
-    };
     let mut scratch = vec![in alloc; 0u32; 2 * n]?;
     let mut output = vec![in alloc; 0u32; n]?;
-    let by_schoolbook = expected.is_given_by(&mut Schoolbook::new(ring), &mut scratch, &mut output);
+    let by_schoolbook = expected.is_given_by(Method::Schoolbook, &mut scratch, &mut output);
     output.fill(0);
-    let by_row_sum = expected.is_given_by(&mut RowSum::new(ring), &mut scratch, &mut output);
+    let by_row_sum = expected.is_given_by(Method::RowSum, &mut scratch, &mut output);
     Ok(by_schoolbook && by_row_sum)
 }
 

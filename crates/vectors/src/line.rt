@@ -82,7 +82,7 @@ fn hex_bytes(alloc: Global, text: &str) -> anyhow::Result<Vec<u8>>
         return Ok(Vec::new(alloc));
     }
     if text.bytes().any(|byte| byte.is_ascii_uppercase()) {
-        bail!("a hexadecimal digit that is a capital letter");
+        bail!("no hexadecimal digit");
     }
     Ok(hex::decode(alloc, text)?)
 }
