@@ -1,52 +1,21 @@
 // Derived elements of the house profiles, and SHAKE128.
-ghost use Rattle.std.specs.Prelude.{◌≡◌, length};
+ghost use Rattle.std.specs.Prelude.{◌≡◌, [], length};
 ghost use Rattle.keccak.specs.Sponge.{shake128 as shake128_of};
+ghost use Rattle.source.specs.Tapes.{tape_meaning};
 ghost use Rattle.exports.specs.ByProfile.{by_profile};
 ghost use Rattle.exports.specs.Codes.{no_call};
 ghost use Rattle.exports.specs.Elements.{derive_code, derive_output, derive_seed_code, derive_seed_output};
 
-use crate::codes::{NO_CALL, done_code};
-use house::{House, S, T, W};
+use crate::by_index::by_index;
+use crate::codes::{Coded, NO_CALL};
 use keccak::shake128;
-use profile::Profile;
-use reconcile::{Ding, Okcn};
-use source::{ByteSource, ShakeSource, Tape, derive};
+use source::{ShakeSource, Tape, derive};
 
-// The element that a source gives for a seed.
-fn derive_code<P: Profile, B: ByteSource>(
-    source: &mut B,
-    seed: &[u8; 16],
-    output: &mut [u32],
-) -> u64
-    ensures answers { result
-        ≡ derive_code P.NUMBERS (B.meaning source.old seed.now) output.old }
-    ensures writes { output.new
-        ≡ derive_output P.NUMBERS (B.meaning source.old seed.now) output.old }
+// A tape's bytes are given for every seed.
+fn tape_source(tape: &[u8]) -> Tape<'_>
+    ensures { tape_meaning result [] ≡ tape.now }
 {
-    done_code(derive::<P, B>(source, seed, output))
-}
-
-// The same for the profile of an index.
-fn derive_by_profile<B: ByteSource>(
-    profile: u8,
-    source: &mut B,
-    seed: &[u8; 16],
-    output: &mut [u32],
-) -> u64
-    ensures answers { let bytes = B.meaning source.old seed.now in
-        result ≡ by_profile (λ numbers _. derive_code numbers bytes output.old) no_call profile }
-    ensures writes { let bytes = B.meaning source.old seed.now in
-        output.new ≡ by_profile (λ numbers _. derive_output numbers bytes output.old) output.old profile }
-{
-    match profile {
-        0 => derive_code::<House<T, Ding>, B>(source, seed, output),
-        1 => derive_code::<House<T, Okcn>, B>(source, seed, output),
-        2 => derive_code::<House<S, Ding>, B>(source, seed, output),
-        3 => derive_code::<House<S, Okcn>, B>(source, seed, output),
-        4 => derive_code::<House<W, Ding>, B>(source, seed, output),
-        5 => derive_code::<House<W, Okcn>, B>(source, seed, output),
-        _ => NO_CALL,
-    }
+    Tape::new(tape)
 }
 
 pub fn exported_derive_tape(profile: u8, tape: &[u8], output: &mut [u32]) -> u64
@@ -54,7 +23,10 @@ pub fn exported_derive_tape(profile: u8, tape: &[u8], output: &mut [u32]) -> u64
     ensures writes { output.new
         ≡ by_profile (λ numbers _. derive_output numbers tape.now output.old) output.old profile }
 {
-    derive_by_profile(profile, &mut Tape::new(tape), &[0; 16], output)
+    by_index!(
+        profile,
+        derive::<P, _>(&mut tape_source(tape), &[0; 16], output).code()
+    )
 }
 
 // By SHAKE128 of a seed, if it has 16 bytes.
@@ -62,12 +34,13 @@ pub fn exported_derive_shake(profile: u8, seed: &[u8], output: &mut [u32]) -> u6
     ensures answers { result ≡ derive_seed_code profile seed.now output.old }
     ensures writes { output.new ≡ derive_seed_output profile seed.now output.old }
 {
-    if seed.len() != 16 {
+    let Ok(seed) = <[u8; 16]>::try_from(seed) else {
         return NO_CALL;
-    }
-    let mut whole = [0; 16];
-    whole.copy_from_slice(seed);
-    derive_by_profile(profile, &mut ShakeSource::new(), &whole, output)
+    };
+    by_index!(
+        profile,
+        derive::<P, _>(&mut ShakeSource::new(), &seed, output).code()
+    )
 }
 
 pub fn exported_shake128(message: &[u8], output: &mut [u8])

@@ -2,11 +2,13 @@
 // benchmarks.
 #![tactic(auto)]
 
+mod by_index;
 mod codes;
 mod derivation;
 mod elements;
 mod profiles;
 
+pub use codes::DONE;
 pub use derivation::{exported_derive_shake, exported_derive_tape, exported_shake128};
 pub use elements::exported_multiply;
 pub use profiles::{exported_read, exported_reconcile, exported_recover, exported_round};

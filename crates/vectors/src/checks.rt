@@ -10,8 +10,8 @@ ghost use Rattle.vectors.specs.Holding.{RoundedHolds, ReconciledHolds, ReadHolds
 use crate::line::Group;
 use anyhow::bail;
 use exports::{
-    exported_derive_shake, exported_multiply, exported_read, exported_reconcile, exported_recover,
-    exported_round, exported_shake128,
+    DONE, exported_derive_shake, exported_multiply, exported_read, exported_reconcile,
+    exported_recover, exported_round, exported_shake128,
 };
 use std::alloc::Global;
 
@@ -23,11 +23,10 @@ const MOST: usize = 4096;
 fn bytes(alloc: Global, numbers: &[u32]) -> anyhow::Result<Vec<u8>>
     ensures { IfOk result (λ v. v.items ≡ numbers.now) }
 {
-    let mut bytes = Vec::new(alloc);
-    for number in numbers {
-        bytes.push(u8::try_from(*number)?)?;
-    }
-    Ok(bytes)
+    numbers
+        .iter()
+        .map(|number| -> anyhow::Result<u8> { Ok(u8::try_from(*number)?) })
+        .try_collect(alloc)
 }
 
 fn count(number: u32) -> anyhow::Result<usize>
@@ -48,6 +47,7 @@ fn hashes_to(message: &[u8], expected: &[u8], output: &mut [u8]) -> bool
     &output[..] == expected
 }
 
+#[tactic(auto, using(std::proofs::lemmas::List::take_all))]
 fn check_output(alloc: Global, numbers: &[u32]) -> anyhow::Result<bool>
     ensures { IfOk result (λ holds. IsTrue holds ↔ OutputHolds numbers.now) }
 {
@@ -58,28 +58,42 @@ fn check_output(alloc: Global, numbers: &[u32]) -> anyhow::Result<bool>
     if rest.len() != m + d {
         bail!(MALFORMED);
     }
-    let message = bytes(alloc, &rest[0..m])?;
-    let expected = bytes(alloc, &rest[m..m + d])?;
+    let (message, expected) = rest.split_at(m);
+    let (message, expected) = (bytes(alloc, message)?, bytes(alloc, expected)?);
     let mut output = vec![in alloc; 0u8; d]?;
     Ok(hashes_to(&message, &expected, &mut output))
 }
 
-// Whether a multiplier accepts two elements and gives the expected product.
-fn multiplies_to(
-    row_sum: u8,
-    q: u32,
-    left: &[u32],
-    right: &[u32],
-    expected: &[u32],
-    scratch: &mut [u32],
-    output: &mut [u32],
-) -> bool
-    ensures { result ≡ true → product (length left.now) q left.now right.now ≡ expected.now }
-{
-    let answer = exported_multiply(row_sum, left.len(), q, left, right, scratch, output);
-    answer == 0 && &output[..] == expected
+// How to multiply: `as u8` gives the number that the exported function has for it.
+#[derive(Clone, Copy)]
+enum Method {
+    Schoolbook,
+    RowSum,
 }
 
+// Two elements modulo q, and what their product is expected to be.
+#[derive(Clone, Copy)]
+struct ExpectedProduct<'a> {
+    q: u32,
+    left: &'a [u32],
+    right: &'a [u32],
+    product: &'a [u32],
+}
+
+impl ExpectedProduct<'_> {
+    // Whether the elements are accepted and multiplied to that product.
+    fn is_given_by(&self, method: Method, scratch: &mut [u32], output: &mut [u32]) -> bool
+        ensures { let expected = self.now in result ≡ true
+            → product (length expected.left.now) expected.q expected.left.now expected.right.now
+            ≡ expected.product.now }
+    {
+        let (row_sum, n) = (method as u8, self.left.len());
+        exported_multiply(row_sum, n, self.q, self.left, self.right, scratch, output) == DONE
+            && &output[..] == self.product
+    }
+}
+
+#[tactic(auto, using(std::proofs::lemmas::List::take_all))]
 fn check_product(alloc: Global, numbers: &[u32]) -> anyhow::Result<bool>
     ensures { IfOk result (λ holds. holds ≡ true → ProductHolds numbers.now) }
 {
@@ -90,23 +104,38 @@ fn check_product(alloc: Global, numbers: &[u32]) -> anyhow::Result<bool>
     if rest.len() != 3 * n {
         bail!(MALFORMED);
     }
-    let (left, right, expected) = (&rest[0..n], &rest[n..2 * n], &rest[2 * n..3 * n]);
+    let (left, rest) = rest.split_at(n);
+    let (right, product) = rest.split_at(n);
+    let expected = ExpectedProduct {
+        q: *q,
+        left,
+        right,
+        product,
+    };
     let mut scratch = vec![in alloc; 0u32; 2 * n]?;
     let mut output = vec![in alloc; 0u32; n]?;
-    let schoolbook = multiplies_to(0, *q, left, right, expected, &mut scratch, &mut output);
+    let by_schoolbook = expected.is_given_by(Method::Schoolbook, &mut scratch, &mut output);
     output.fill(0);
-    let row_sum = multiplies_to(1, *q, left, right, expected, &mut scratch, &mut output);
-    Ok(schoolbook && row_sum)
+    let by_row_sum = expected.is_given_by(Method::RowSum, &mut scratch, &mut output);
+    Ok(by_schoolbook && by_row_sum)
+}
+
+// Whether a seed gives an element, which the output then holds.
+#[tactic(auto, using(std::proofs::lemmas::Bool::Decides::nat_tests))]
+fn derives(profile: u8, seed: &[u8], output: &mut [u32]) -> bool
+    ensures { result ≡ true → output.new ≡ by_profile (λ k _. derived k.n k.q (shake128 seed.now 4032)) [] profile }
+{
+    exported_derive_shake(profile, seed, output) == DONE
 }
 
 // Whether a seed gives the expected element.
 fn derives_to(profile: u8, seed: &[u8], expected: &[u32], output: &mut [u32]) -> bool
     ensures { result ≡ true → by_profile (λ k _. derived k.n k.q (shake128 seed.now 4032)) [] profile ≡ expected.now }
 {
-    let answer = exported_derive_shake(profile, seed, output);
-    answer == 0 && &output[..] == expected
+    derives(profile, seed, output) && &output[..] == expected
 }
 
+#[tactic(auto, using(std::proofs::lemmas::List::take_all))]
 fn check_derived(alloc: Global, numbers: &[u32]) -> anyhow::Result<bool>
     ensures { IfOk result (λ holds. holds ≡ true → DerivedHolds numbers.now) }
 {
@@ -117,14 +146,10 @@ fn check_derived(alloc: Global, numbers: &[u32]) -> anyhow::Result<bool>
     if rest.len() != 16 + n {
         bail!(MALFORMED);
     }
-    let seed = bytes(alloc, &rest[0..16])?;
+    let (seed, expected) = rest.split_at(16);
+    let seed = bytes(alloc, seed)?;
     let mut output = vec![in alloc; 0u32; n]?;
-    Ok(derives_to(
-        u8::try_from(*profile)?,
-        &seed,
-        &rest[16..16 + n],
-        &mut output,
-    ))
+    Ok(derives_to(u8::try_from(*profile)?, &seed, expected, &mut output))
 }
 
 fn check_rounded(numbers: &[u32]) -> anyhow::Result<bool>

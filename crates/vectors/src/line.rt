@@ -1,9 +1,13 @@
 // A line of the input: a word for the group, then numbers.
-use crate::hex::push_bytes;
-use anyhow::{Context, anyhow};
-use std::alloc::Global;
+ghost use Rattle.std.specs.Prelude.{◌≡◌, ◌≢◌, Ok, IfOk, codes};
+ghost use Rattle.hex.specs.Hex.{decode_of};
 
-#[derive(Clone, Copy, PartialEq, Eq, Debug)]
+use anyhow::{Context, anyhow, bail};
+use std::alloc::Global;
+use std::fmt;
+use std::str::FromStr;
+
+#[derive(Clone, Copy, PartialEq, Eq, PartialOrd, Ord, Debug)]
 pub enum Group {
     // the bytes of a message and of its output, each after their count
     Published,
@@ -20,57 +24,100 @@ pub enum Group {
     Read,
 }
 
+impl Group {
+    pub const ALL: [Group; 7] = [
+        Group::Published,
+        Group::Output,
+        Group::Product,
+        Group::Derived,
+        Group::Rounded,
+        Group::Reconciled,
+        Group::Read,
+    ];
+}
+
+impl FromStr for Group {
+    type Err = anyhow::Error;
+
+    fn from_str(word: &str) -> anyhow::Result<Group> {
+        match word {
+            "published" => Ok(Group::Published),
+            "shake" => Ok(Group::Output),
+            "product" => Ok(Group::Product),
+            "derived" => Ok(Group::Derived),
+            "rounded" => Ok(Group::Rounded),
+            "reconciled" => Ok(Group::Reconciled),
+            "read" => Ok(Group::Read),
+            _ => Err(anyhow!("a line of no known group")),
+        }
+    }
+}
+
+// What the vectors of a group are.
+impl fmt::Display for Group {
+    fn fmt<W: fmt::Write>(&self, f: &mut fmt::Formatter<W>) -> fmt::Result {
+        f.write_str(match self {
+            Group::Published => "SHAKE128, published vectors",
+            Group::Output => "SHAKE128, at the edges of blocks",
+            Group::Product => "products, by both multipliers",
+            Group::Derived => "derived elements",
+            Group::Rounded => "rounded and recovered values",
+            Group::Reconciled => "signals and key bits",
+            Group::Read => "key bits read",
+        })
+    }
+}
+
 #[derive(Drop)]
-pub enum Line {
-    Comment,
-    Vector(Group, Vec<u32>),
+pub struct Vector {
+    pub group: Group,
+    pub numbers: Vec<u32>,
 }
 
-fn group_of(word: &str) -> anyhow::Result<Group> {
-    match word {
-        "published" => Ok(Group::Published),
-        "shake" => Ok(Group::Output),
-        "product" => Ok(Group::Product),
-        "derived" => Ok(Group::Derived),
-        "rounded" => Ok(Group::Rounded),
-        "reconciled" => Ok(Group::Reconciled),
-        "read" => Ok(Group::Read),
-        _ => Err(anyhow!("a line of no known group")),
+// The bytes of a text in hexadecimal with small letters, of which `-` has none.
+fn hex_bytes(alloc: Global, text: &str) -> anyhow::Result<Vec<u8>>
+    ensures { IfOk result (λ bytes. text.now ≢ codes "-" → decode_of text.now ≡ Ok bytes.items) }
+{
+    if text == "-" {
+        return Ok(Vec::new(alloc));
     }
+    if text.bytes().any(|byte| byte.is_ascii_uppercase()) {
+        bail!("no hexadecimal digit");
+    }
+    Ok(hex::decode(alloc, text)?)
 }
 
-// The counts and the bytes of a message and an output that are written in hexadecimal.
-fn hex_numbers(alloc: Global, message: &str, output: &str) -> anyhow::Result<Vec<u32>> {
-    let mut bytes = Vec::new(alloc);
+// The counts and the bytes of a message and an output.
+fn hash_numbers(alloc: Global, message: &[u8], output: &[u8]) -> anyhow::Result<Vec<u32>> {
     let mut numbers = Vec::new(alloc);
-    push_bytes(&mut bytes, message)?;
-    numbers.push(u32::try_from(bytes.len())?)?;
-    let first = bytes.len();
-    push_bytes(&mut bytes, output)?;
-    numbers.push(u32::try_from(bytes.len().saturating_sub(first))?)?;
-    for byte in bytes.iter() {
-        numbers.push(*byte)?;
-    }
+    numbers.push(u32::try_from(message.len())?)?;
+    numbers.push(u32::try_from(output.len())?)?;
+    numbers.extend(message.iter().chain(output).map(|byte| u32::from(*byte)))?;
     Ok(numbers)
 }
 
-pub fn read_line(alloc: Global, text: &str) -> anyhow::Result<Line> {
+// The vector that a line states, if it is no comment.
+pub fn read_line(alloc: Global, text: &str) -> anyhow::Result<Option<Vector>> {
     let mut words = text.split_whitespace();
     let Some(first) = words.next() else {
-        return Ok(Line::Comment);
+        return Ok(None);
     };
     if first.starts_with('#') {
-        return Ok(Line::Comment);
+        return Ok(None);
     }
-    let group = group_of(first)?;
-    if group == Group::Published {
+    let group = first.parse::<Group>()?;
+    let numbers = if group == Group::Published {
         let message = words.next().context("a message is missing")?;
         let output = words.next().context("an output is missing")?;
-        return Ok(Line::Vector(group, hex_numbers(alloc, message, output)?));
-    }
-    let mut numbers = Vec::new(alloc);
-    for word in words {
-        numbers.push(word.parse::<u32>()?)?;
-    }
-    Ok(Line::Vector(group, numbers))
+        hash_numbers(
+            alloc,
+            &hex_bytes(alloc, message)?,
+            &hex_bytes(alloc, output)?,
+        )?
+    } else {
+        words
+            .map(|word| -> anyhow::Result<u32> { Ok(word.parse()?) })
+            .try_collect(alloc)?
+    };
+    Ok(Some(Vector { group, numbers }))
 }

@@ -3,68 +3,32 @@
 #![tactic(auto)]
 
 mod checks;
-mod hex;
 mod line;
 
-use anyhow::anyhow;
+use anyhow::bail;
 use checks::check;
-use line::{Group, Line, read_line};
+use line::{Group, read_line};
+use std::collections::BTreeMap;
 use std::io::{BufRead, BufReader};
-
-// How many vectors of each group have held.
-#[derive(Clone, Copy, Default)]
-struct Counts {
-    published: u32,
-    outputs: u32,
-    products: u32,
-    derived: u32,
-    rounded: u32,
-    reconciled: u32,
-    read: u32,
-}
-
-impl Counts {
-    fn add(&mut self, group: Group) {
-        let count = match group {
-            Group::Published => &mut self.published,
-            Group::Output => &mut self.outputs,
-            Group::Product => &mut self.products,
-            Group::Derived => &mut self.derived,
-            Group::Rounded => &mut self.rounded,
-            Group::Reconciled => &mut self.reconciled,
-            Group::Read => &mut self.read,
-        };
-        *count = count.saturating_add(1);
-    }
-
-    fn print(&self, rt: &impl Print) -> anyhow::Result<()> {
-        println!(rt; "SHAKE128, published vectors: {}", self.published)?;
-        println!(rt; "SHAKE128, at the edges of blocks: {}", self.outputs)?;
-        println!(rt; "products, by both multipliers: {}", self.products)?;
-        println!(rt; "derived elements: {}", self.derived)?;
-        println!(rt; "rounded and recovered values: {}", self.rounded)?;
-        println!(rt; "signals and key bits: {}", self.reconciled)?;
-        println!(rt; "key bits read: {}", self.read)?;
-        Ok(())
-    }
-}
 
 fn run(rt: &(impl Input + Print + AllocGlobal)) -> anyhow::Result<()> {
     let alloc = rt.alloc();
-    let mut counts = Counts::default();
+    // how many vectors of each group have held
+    let mut counts = BTreeMap::new(alloc);
     for text in BufReader::new(alloc, rt.reader())?.lines(alloc) {
-        let text = text?;
-        match read_line(alloc, text.as_str())? {
-            Line::Comment => {}
-            Line::Vector(group, numbers) => {
-                if !check(alloc, group, numbers.as_slice())? {
-                    return Err(anyhow!("a vector does not hold"));
-                }
-                counts.add(group);
-            }
+        let Some(vector) = read_line(alloc, text?.as_str())? else {
+            continue;
+        };
+        if !check(alloc, vector.group, &vector.numbers)? {
+            bail!("a vector does not hold");
         }
+        let count = counts.entry(vector.group)?.or_insert(0u32);
+        *count = count.saturating_add(1);
     }
-    counts.print(rt)
+    for group in Group::ALL {
+        println!(rt; "{group}: {}", counts.get(&group).unwrap_or(&0))?;
+    }
+    Ok(())
 }
 
 fn main(rt: HostRuntime) -> anyhow::Result<()> {
