@@ -74,6 +74,10 @@ pub struct Vector {
     pub numbers: Vec<u32>,
 }
 
+fn is_small_digit(text: &u8) -> bool {
+    matches!(*text, b'0'..=b'9' | b'a'..=b'f')
+}
+
 // The bytes of a text in hexadecimal with small letters, of which `-` has none.
 fn hex_bytes(alloc: Global, text: &str) -> anyhow::Result<Vec<u8>>
     ensures { IfOk result (λ bytes. text.now ≢ codes "-" → decode_of text.now ≡ Ok bytes.items) }
@@ -81,8 +85,12 @@ fn hex_bytes(alloc: Global, text: &str) -> anyhow::Result<Vec<u8>>
     if text == "-" {
         return Ok(Vec::new(alloc));
     }
-    if text.bytes().any(|byte| byte.is_ascii_uppercase()) {
+    let (pairs, half) = text.as_bytes().as_chunks::<2>();
+    if !pairs.as_flattened().iter().all(is_small_digit) {
         bail!("no hexadecimal digit");
+    }
+    if !half.is_empty() {
+        bail!("half a byte");
     }
     Ok(hex::decode(alloc, text)?)
 }
