@@ -1,5 +1,5 @@
 pub mod NaturalSums
-pub mod Rows
+pub mod RowSums
 pub mod ReversedDots
 pub mod Coefficients
 pub mod Refusals

@@ -3,11 +3,11 @@ use Rattle.std.proofs.Common.{◌≡◌, ℕ, ◌+◌, ◌-◌, ◌*◌, ◌%◌
 use Rattle.std.specs.List.{between}
 use Rattle.std.proofs.lemmas.Nat.{mul-le}
 use Rattle.std.proofs.lemmas.List.Edits.{length-between, get_or-between}
-use Rattle.multiplier.specs.Sums.{Factors, nat_sum, antidiagonal_sum, coefficient_mod}
+use Rattle.multiplier.specs.Sums.{AreFactors, nat_sum, antidiagonal_sum, coefficient_mod}
 use Rattle.multiplier.proofs.Coefficients.{difference_is_coefficient}
 use Rattle.multiplier.proofs.NaturalSums.{nat_sum_more, nat_sum_same, nat_sum_bound}
 
-module _ (q : ℕ) (left right : List ℕ) (f : Factors q left right) where
+module _ (q : ℕ) (left right : List ℕ) (f : AreFactors q left right) where
   -- the sum of the first m products
   dot_bound : (m : ℕ) → m ≤ length left
       → nat_sum m (λ i. get_or left i 0 * get_or right (length left - 1 - i) 0) ≤ m * (q * q)

@@ -2,10 +2,14 @@
 #![tactic(auto)]
 
 mod checks;
+mod factors;
+mod in_ring;
+mod method;
 mod multiplier;
 mod quotient;
 mod rings;
 mod row_sum;
+mod rows;
 mod schoolbook;
 mod scratch;
 
