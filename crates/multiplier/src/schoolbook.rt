@@ -1,7 +1,7 @@
 // The schoolbook product: for each coefficient in turn its sum.
-ghost use Rattle.std.specs.Prelude.{◌≡◌, ◌*◌, ◌<◌, ◌≤◌, length};
+ghost use Rattle.std.specs.Prelude.{◌≡◌, ◌*◌, ◌^◌, ◌<◌, length, reverse, sum_by, zip};
 ghost use Rattle.element.specs.Products.{product};
-ghost use Rattle.multiplier.specs.Sums.{antidiagonal_sum, coefficient_mod};
+ghost use Rattle.multiplier.specs.Sums.{coefficient_mod};
 
 use crate::factors::Factors;
 use crate::in_ring::InRing;
@@ -14,23 +14,20 @@ pub type Schoolbook = InRing<ByCoefficient>;
 #[derive(Clone, Copy)]
 pub struct ByCoefficient;
 
-impl Factors<'_> {
-    // The sum of left[i] right[m - 1 - i], for two lists of m numbers.
-    #[tactic(auto, using(crate::proofs::NaturalSums::sum_steps))]
-    fn reversed_dot(self) -> u64
-        ensures value { result ≡ antidiagonal_sum self.entry.left.now self.entry.right.now }
-        ensures bound { result ≤ length self.entry.left.now * (self.entry.q * self.entry.q) }
-    {
-        let m = self.left.len();
-        let mut sum: u64 = 0;
-        for (i, x) in self.left.iter().enumerate() {
-            sum += u64::from(*x) * u64::from(self.right[m - 1 - i]);
-        }
-        sum
-    }
+// The sum of left[i] right[m - 1 - i], for two lists of m numbers.
+fn reversed_dot(left: &[u32], right: &[u32]) -> u64
+    requires { sum_by (λ p. p.0 * p.1) (zip left.now (reverse right.now)) < 2 ^ 64 }
+    ensures { result ≡ sum_by (λ p. p.0 * p.1) (zip left.now (reverse right.now)) }
+{
+    left.iter()
+        .zip(right.iter().rev())
+        .map(|(x, y)| u64::from(*x) * u64::from(*y))
+        .sum()
+}
 
+impl Factors<'_> {
     // The coefficient k of the product: the pairs with i + j = k, less those with i + j = k + n.
-    #[tactic(auto, using(crate::proofs::ReversedDots::difference_of_parts))]
+    #[tactic(auto, using(crate::proofs::ReversedDots::parts))]
     fn coefficient(self, k: usize) -> u32
         requires { k < length self.left.now }
         ensures { result ≡ coefficient_mod (length self.entry.left.now) self.entry.q self.entry.left.now self.entry.right.now k }
@@ -38,18 +35,8 @@ impl Factors<'_> {
         let Factors { left, right, q } = self;
         let n = left.len();
         let modulus = u64::from(q);
-        let low = Factors {
-            left: &left[..k + 1],
-            right: &right[..k + 1],
-            q,
-        };
-        let high = Factors {
-            left: &left[k + 1..],
-            right: &right[k + 1..],
-            q,
-        };
-        let plus = low.reversed_dot();
-        let minus = high.reversed_dot();
+        let plus = reversed_dot(&left[..=k], &right[..=k]);
+        let minus = reversed_dot(&left[k + 1..], &right[k + 1..]);
         // a multiple of q that is no less than minus
         let lift = n as u64 * modulus * modulus;
         ((plus + lift - minus) % modulus) as u32
