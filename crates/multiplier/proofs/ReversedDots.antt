@@ -57,10 +57,10 @@ module _ (q : ℕ) (left right : List ℕ) (f : AreFactors q left right) where
   part_most : (a e : ℕ) → a ≤ e → e ≤ length left → reversed_sum (between a e left) (between a e right) ≤ length left * (q * q)
   part_most a e order inside =
       let each = nat_sum_bound (λ t. get_or left (a + t) 0 * get_or right (e - 1 - t) 0) (e - a) (q * q)
-        (λ t lt.
-        mul-le (get_or left (a + t) 0) (get_or right (e - 1 - t) 0) q q
-        (omega (arith, f.left_below (a + t) (omega arith)))
-        (omega (arith, f.right_below (e - 1 - t) (omega (arith, f.long))))) in
+      (λ t lt.
+      mul-le (get_or left (a + t) 0) (get_or right (e - 1 - t) 0) q q
+      (omega (arith, f.left_below (a + t) (omega arith)))
+      (omega (arith, f.right_below (e - 1 - t) (omega (arith, f.long))))) in
       omega (arith, part_sum a e order inside, each, mul-le (e - a) (q * q) (length left) (q * q) (omega arith) (omega arith))
 
   -- at most 1024 products below 2^46 stay below 2^56

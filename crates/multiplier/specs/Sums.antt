@@ -17,10 +17,6 @@ negated q x = (q - x) % q
 abbrev pub coefficient_mod : (n q : ℕ) (left right : List ℕ) (k : ℕ) → ℕ
 coefficient_mod n q left right k = residue q (coefficient n (at (map pos left)) (at (map pos right)) k)
 
--- the sum of left_i right_j over i + j = m - 1, for two lists of m numbers
-abbrev pub antidiagonal_sum : (left right : List ℕ) → ℕ
-antidiagonal_sum left right = nat_sum (length left) (λ i. slice_index left i * slice_index right (length left - 1 - i))
-
 -- what the first m rows add up to in the coefficient k
 abbrev pub sum_of_rows : (left words : List ℕ) (m k : ℕ) → ℕ
 sum_of_rows left words m k = nat_sum m (λ i. slice_index left i * slice_index words (length left - i + k))

@@ -9,7 +9,6 @@ mod multiplier;
 mod quotient;
 mod rings;
 mod row_sum;
-mod rows;
 mod schoolbook;
 mod scratch;
 
