@@ -1,3 +1,4 @@
+pub mod Degrees
 pub mod NaturalSums
 pub mod RowSums
 pub mod ReversedDots

@@ -1,31 +1,40 @@
 -- What each answer of a multiplication says of the lists and buffers.
-use Rattle.std.proofs.Common.{◌≡◌, ℕ, ◌^◌, ◌<◌, ◌≤◌, eqb, ltb, leb, List, length, None, Some, sym, refl, subst, inl, inr, arith}
-use Rattle.std.proofs.lemmas.Bool.{cond_both, eqb-true, eqb-false, leb-true, leb-false, ltb-true, ltb-false}
-use Rattle.ring.proofs.Fronts.{front_passes, front_ends}
-use Rattle.std.specs.List.{position, position_or_len}
-use Rattle.std.proofs.lemmas.List.Recursion.{is_position_or_len}
-use Rattle.std.proofs.lemmas.Bool.Decides.{nat_tests}
+use Rattle.std.proofs.Common.{◌≡◌, ℕ, ◌<◌, ◌≤◌, eqb, ltb, leb, List, length, sym, refl, ⊎_elim, inl, inr, arith}
+use Rattle.std.proofs.lemmas.Bool.{cond_both, eqb-true, eqb-false, leb-true, leb-false, ltb-true, ltb-false, cases_lt}
+use Rattle.std.proofs.lemmas.List.Sums.{prefix_len_passes, prefix_len_stops}
 use Rattle.multiplier.specs.Multipliers.{AllBelow, Fitting, FirstNotBelow, MultiplyMeans, prefix_below, multiply_answer}
-use Rattle.multiplier.specs.Sums.{AreFactors}
 
-prefix_is_position : (q : ℕ) (xs : List ℕ) → prefix_below q xs ≡ position_or_len (λ x. leb q x) xs
-prefix_is_position q xs = is_position_or_len (prefix_below q) (λ x. leb q x) refl (λ x rest. grind (arith, nat_tests)) xs
+-- the first number that is not below q is where the front ends
+pub front_stops : (q : ℕ) (xs : List ℕ) (i : ℕ) → FirstNotBelow q xs i → prefix_below q xs ≡ i
+front_stops q xs i first =
+    ⊎_elim
+    (λ (sooner : prefix_below q xs < i).
+    let stop = ltb-false _ _ (prefix_len_stops (λ x. ltb x q) xs 0 (omega (arith, first.inside))) in
+    absurd (omega (arith, stop, first.before (prefix_below q xs) sooner)))
+    (λ (rest : i ≤ prefix_below q xs).
+    ⊎_elim
+    (λ (later : i < prefix_below q xs). absurd (omega (arith, ltb-true _ _ (prefix_len_passes (λ x. ltb x q) xs i 0 later), first.here)))
+    (λ (no : prefix_below q xs ≤ i). omega arith)
+    (cases_lt i (prefix_below q xs)))
+    (cases_lt (prefix_below q xs) i)
 
--- the first that is not below q is where the front ends
-pub front_stops : (q : ℕ) (xs : List ℕ) (i : ℕ) → position (λ x. leb q x) xs ≡ Some i → (prefix_below q xs ≡ i) × (i < length xs)
-front_stops q xs i found = let is = prefix_is_position q xs in grind (arith, nat_tests, is, found)
-
-pub front_reaches : (q : ℕ) (xs : List ℕ) → position (λ x. leb q x) xs ≡ None → length xs ≤ prefix_below q xs
-front_reaches q xs none = let is = prefix_is_position q xs in grind (arith, nat_tests, is, none)
+pub front_reaches : (q : ℕ) (xs : List ℕ) → AllBelow q xs → length xs ≤ prefix_below q xs
+front_reaches q xs all =
+    ⊎_elim
+    (λ (stops : prefix_below q xs < length xs).
+    let stop = ltb-false _ _ (prefix_len_stops (λ x. ltb x q) xs 0 stops) in
+    absurd (omega (arith, stop, all (prefix_below q xs) stops)))
+    (λ (no : length xs ≤ prefix_below q xs). no)
+    (cases_lt (prefix_below q xs) (length xs))
 
 all_below : (q : ℕ) (xs : List ℕ) → length xs ≤ prefix_below q xs → AllBelow q xs
-all_below q xs far k h = ltb-true _ _ (front_passes (λ x. ltb x q) 0 xs k (omega arith))
+all_below q xs far k h = ltb-true _ _ (prefix_len_passes (λ x. ltb x q) xs k 0 (omega arith))
 
 first_not_below : (q : ℕ) (xs : List ℕ) → prefix_below q xs < length xs → FirstNotBelow q xs (prefix_below q xs)
 first_not_below q xs h = record {
   inside = h;
-  before = λ k lt. ltb-true _ _ (front_passes (λ x. ltb x q) 0 xs k lt);
-  here = ltb-false _ _ (front_ends (λ x. ltb x q) 0 xs h);
+  before = λ k lt. ltb-true _ _ (prefix_len_passes (λ x. ltb x q) xs k 0 lt);
+  here = ltb-false _ _ (prefix_len_stops (λ x. ltb x q) xs 0 h);
 }
 
 pub multiply_means : (n q need : ℕ) (left right : List ℕ) (scratch output : ℕ) → MultiplyMeans n q need left right scratch output (multiply_answer n q need left right scratch output)
@@ -60,14 +69,3 @@ multiply_means n q need left right scratch output =
     (λ short. inr (left_long, inr (right_long, inl (refl, leb-false _ _ short)))))
     (λ other. inr (left_long, inl (refl, eqb-false _ _ other))))
     (λ other. inl (refl, eqb-false _ _ other))
-
--- what is known of two lists that pass every test
-pub passed : (q : ℕ) (left right : List ℕ) → 3 ≤ q → q < 2 ^ 23 → length left ≤ 1024 → length right ≡ length left → position (λ x. leb q x) left ≡ None → position (λ x. leb q x) right ≡ None → AreFactors q left right
-passed q left right some small short long left_none right_none = record {
-  short = short;
-  long = long;
-  q_positive = omega arith;
-  q_small = small;
-  left_below = all_below q left (front_reaches q left left_none);
-  right_below = all_below q right (front_reaches q right right_none);
-}

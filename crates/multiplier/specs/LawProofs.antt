@@ -1,9 +1,9 @@
 -- No definitions: the proofs of the multipliers' law, which the source cites. A ring's degree is a power of two, since
 -- one bit of it is set.
 use Rattle.std.specs.Prelude.{◌≡◌, ℕ, zero, suc, ◌*◌, ◌/◌, ◌%◌, ◌^◌, ◌<◌, ◌≤◌}
-use Rattle.std.proofs.Common.{inl, inr, ⊎_elim, ap, ◌∙◌, pow-suc, arith, pow_pos, pow_mono}
+use Rattle.std.proofs.Common.{inl, inr, ⊎_elim, pow-suc, arith}
 use Rattle.std.specs.Int.Count.{ones, ones_step}
-use Rattle.std.proofs.lemmas.Nat.{mul-le, ones_cat, ones_le_self, zero_from_ones}
+use Rattle.std.proofs.lemmas.Nat.{mul-le, ones_le_self, zero_from_ones}
 use Rattle.std.proofs.lemmas.Bool.{cases_eq}
 use Rattle.multiplier.specs.Multipliers.{IsDegree, InRange}
 use Rattle.multiplier.specs.declared.quotient.QuotientRing.{QuotientRing}
@@ -24,13 +24,6 @@ pub degree_from_ones : (n : ℕ) → ones n ≡ 1 → n ≤ 1024 → IsDegree n
 degree_from_ones n one most =
     let m = one_bit 11 n (omega arith) one in
     (m.0, omega (arith, m.1), m.2)
-
-pub ones_of_degree : (n : ℕ) → IsDegree n → ones n ≡ 1
-unfolding ones
-ones_of_degree n (m, most, is) = ap ones (is ∙ omega arith) ∙ ones_cat m 1 0 (pow_pos m)
-
-pub degree_most : (n : ℕ) → IsDegree n → n ≤ 1024
-degree_most n (m, most, is) = let bound : 2 ^ m ≤ 2 ^ 10 = pow_mono most in omega arith
 
 -- with no more than 64 scratch words for each coefficient
 pub in_range : (ring : QuotientRing) (words : ℕ) → words ≤ 64 → InRange ring.degree ring.modulus.q (words * ring.degree)

@@ -1,6 +1,6 @@
 // What is tested before a product is made.
-ghost use Rattle.std.specs.Prelude.{◌≡◌, Ok, Err, MatchResult, nat_le, position};
-ghost use Rattle.multiplier.specs.Multipliers.{MultiplyRefusesTheFirst, multiply_answer};
+ghost use Rattle.std.specs.Prelude.{◌≡◌, Ok, Err, MatchOption, MatchResult};
+ghost use Rattle.multiplier.specs.Multipliers.{AllBelow, FirstNotBelow, MultiplyRefusesTheFirst, multiply_answer};
 
 use crate::factors::Factors;
 use crate::quotient::QuotientRing;
@@ -8,14 +8,14 @@ use ring::Fault;
 
 // The index of the first number that is not below q.
 fn first_not_below(xs: &[u32], q: u32) -> Option<usize>
-    ensures { result ≡ position (λ x. nat_le q x) xs.now }
+    ensures { MatchOption result (AllBelow q xs.now) (FirstNotBelow q xs.now) }
 {
     xs.iter().position(|x| *x >= q)
 }
 
 impl<'a> Factors<'a> {
     // The two lists, if they and the buffers fit the ring and the need, or the first fault.
-    #[tactic(auto, using(crate::proofs::Refusals::passed, crate::proofs::Refusals::front_stops, crate::proofs::Refusals::front_reaches))]
+    #[tactic(auto, using(crate::proofs::Refusals::front_stops, crate::proofs::Refusals::front_reaches))]
     pub(crate) fn check(
         ring: QuotientRing,
         need: usize,

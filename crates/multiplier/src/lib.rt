@@ -7,7 +7,6 @@ mod in_ring;
 mod method;
 mod multiplier;
 mod quotient;
-mod rings;
 mod row_sum;
 mod schoolbook;
 mod scratch;
