@@ -1,8 +1,8 @@
 -- What each answer of a multiplication says of the lists and buffers.
-use Rattle.std.proofs.Common.{◌≡◌, ℕ, ◌<◌, ◌≤◌, eqb, ltb, leb, List, length, sym, refl, ⊎_elim, inl, inr, arith}
+use Rattle.std.proofs.Common.{◌≡◌, ℕ, ◌<◌, ◌≤◌, eqb, ltb, leb, List, length, refl, ⊎_elim, inl, inr, arith}
 use Rattle.std.proofs.lemmas.Bool.{cond_both, eqb-true, eqb-false, leb-true, leb-false, ltb-true, ltb-false, cases_lt}
 use Rattle.std.proofs.lemmas.List.Sums.{prefix_len_passes, prefix_len_stops}
-use Rattle.multiplier.specs.Multipliers.{AllBelow, Fitting, FirstNotBelow, MultiplyMeans, prefix_below, multiply_answer}
+use Rattle.multiplier.specs.Multipliers.{AllBelow, FirstNotBelow, MultiplyMeans, prefix_below, multiply_answer}
 
 -- the first number that is not below q is where the front ends
 pub front_stops : (q : ℕ) (xs : List ℕ) (i : ℕ) → FirstNotBelow q xs i → prefix_below q xs ≡ i

@@ -1,5 +1,5 @@
 -- The sums of the schoolbook: the front of the two lists and the rest of them, each with the right list in reverse.
-use Rattle.std.proofs.Common.{◌≡◌, ℕ, zero, suc, ◌+◌, ◌-◌, ◌*◌, ◌%◌, ◌^◌, ◌<◌, ◌≤◌, List, length, get_or, take, drop, zip, reverse, sum_by, refl, sym, ap, ◌∙◌, ap₂, add-one, mul_assoc, arith}
+use Rattle.std.proofs.Common.{◌≡◌, ℕ, zero, suc, ◌+◌, ◌-◌, ◌*◌, ◌%◌, ◌^◌, ◌<◌, ◌≤◌, List, length, get_or, take, zip, reverse, sum_by, refl, sym, ap, ◌∙◌, ap₂, add-one, mul_assoc, arith}
 use Rattle.std.proofs.Math.Seq.{take-length}
 use Rattle.std.proofs.lemmas.Nat.{mul-le}
 use Rattle.std.specs.List.{between}
@@ -9,7 +9,7 @@ use Rattle.std.proofs.lemmas.List.Sums.{sum_by_more}
 use Rattle.std.proofs.lemmas.Slice.Zip.{length-zip, get_or-zip}
 use Rattle.multiplier.specs.Sums.{AreFactors, nat_sum, coefficient_mod}
 use Rattle.multiplier.proofs.Coefficients.{difference_is_coefficient}
-use Rattle.multiplier.proofs.NaturalSums.{nat_sum_more, nat_sum_same, nat_sum_bound}
+use Rattle.multiplier.proofs.NaturalSums.{nat_sum_same, nat_sum_bound}
 
 -- the sum of left_i right_j over i + j = m - 1, for two lists of m numbers
 abbrev pub reversed_sum : (left right : List ℕ) → ℕ
@@ -110,5 +110,3 @@ module _ (q : ℕ) (left right : List ℕ) (f : AreFactors q left right) where
           ap₂ (λ (i j : ℕ). get_or left i 0 * get_or right j 0) here there))
           (minus_is ∙ rest_is ∙ part_sum (k + 1) n (omega arith) (omega arith))
           enough
-
-pub ruleset parts = (front_fits, rest_fits, lifted_fits, enough, difference_of_parts)

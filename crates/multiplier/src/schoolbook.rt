@@ -27,7 +27,7 @@ fn reversed_dot(left: &[u32], right: &[u32]) -> u64
 
 impl Factors<'_> {
     // The coefficient k of the product: the pairs with i + j = k, less those with i + j = k + n.
-    #[tactic(auto, using(crate::proofs::ReversedDots::parts))]
+    #[tactic(auto, using(crate::proofs::ReversedDots::difference_of_parts))]
     fn coefficient(self, k: usize) -> u32
         requires { k < length self.left.now }
         ensures { result ≡ coefficient_mod (length self.entry.left.now) self.entry.q self.entry.left.now self.entry.right.now k }
