@@ -1,5 +1,6 @@
+pub mod Degrees
 pub mod NaturalSums
-pub mod Rows
+pub mod RowSums
 pub mod ReversedDots
 pub mod Coefficients
 pub mod Refusals

@@ -35,5 +35,3 @@ pub pos_nat_sum : (g : ℕ → ℕ) (m : ℕ) → pos (nat_sum m g) ≡ sum_to m
 unfolding nat_sum sum_to
 pos_nat_sum g zero = refl
 pos_nat_sum g (suc m) = ap (λ (z : ℤ). z +ℤ pos (g m)) (pos_nat_sum g m)
-
-pub ruleset sum_steps = (nat_sum_none, nat_sum_more)

@@ -1,17 +1,40 @@
 -- What each answer of a multiplication says of the lists and buffers.
-use Rattle.std.proofs.Common.{◌≡◌, ℕ, ◌<◌, ◌≤◌, eqb, ltb, leb, List, length, Ok, sym, refl, subst, inl, inr, arith}
-use Rattle.std.proofs.lemmas.Bool.{cond_both, eqb-true, eqb-false, leb-true, leb-false, ltb-true, ltb-false}
-use Rattle.ring.proofs.Fronts.{front_passes, front_ends}
-use Rattle.multiplier.specs.Multipliers.{AllBelow, Fitting, FirstNotBelow, MultiplyMeans, prefix_below, multiply_answer}
+use Rattle.std.proofs.Common.{◌≡◌, ℕ, ◌<◌, ◌≤◌, eqb, ltb, leb, List, length, refl, ⊎_elim, inl, inr, arith}
+use Rattle.std.proofs.lemmas.Bool.{cond_both, eqb-true, eqb-false, leb-true, leb-false, ltb-true, ltb-false, cases_lt}
+use Rattle.std.proofs.lemmas.List.Sums.{prefix_len_passes, prefix_len_stops}
+use Rattle.multiplier.specs.Multipliers.{AllBelow, FirstNotBelow, MultiplyMeans, prefix_below, multiply_answer}
+
+-- the first number that is not below q is where the front ends
+pub front_stops : (q : ℕ) (xs : List ℕ) (i : ℕ) → FirstNotBelow q xs i → prefix_below q xs ≡ i
+front_stops q xs i first =
+    ⊎_elim
+    (λ (sooner : prefix_below q xs < i).
+    let stop = ltb-false _ _ (prefix_len_stops (λ x. ltb x q) xs 0 (omega (arith, first.inside))) in
+    absurd (omega (arith, stop, first.before (prefix_below q xs) sooner)))
+    (λ (rest : i ≤ prefix_below q xs).
+    ⊎_elim
+    (λ (later : i < prefix_below q xs). absurd (omega (arith, ltb-true _ _ (prefix_len_passes (λ x. ltb x q) xs i 0 later), first.here)))
+    (λ (no : prefix_below q xs ≤ i). omega arith)
+    (cases_lt i (prefix_below q xs)))
+    (cases_lt (prefix_below q xs) i)
+
+pub front_reaches : (q : ℕ) (xs : List ℕ) → AllBelow q xs → length xs ≤ prefix_below q xs
+front_reaches q xs all =
+    ⊎_elim
+    (λ (stops : prefix_below q xs < length xs).
+    let stop = ltb-false _ _ (prefix_len_stops (λ x. ltb x q) xs 0 stops) in
+    absurd (omega (arith, stop, all (prefix_below q xs) stops)))
+    (λ (no : length xs ≤ prefix_below q xs). no)
+    (cases_lt (prefix_below q xs) (length xs))
 
 all_below : (q : ℕ) (xs : List ℕ) → length xs ≤ prefix_below q xs → AllBelow q xs
-all_below q xs far k h = ltb-true _ _ (front_passes (λ x. ltb x q) 0 xs k (omega arith))
+all_below q xs far k h = ltb-true _ _ (prefix_len_passes (λ x. ltb x q) xs k 0 (omega arith))
 
 first_not_below : (q : ℕ) (xs : List ℕ) → prefix_below q xs < length xs → FirstNotBelow q xs (prefix_below q xs)
 first_not_below q xs h = record {
   inside = h;
-  before = λ k lt. ltb-true _ _ (front_passes (λ x. ltb x q) 0 xs k lt);
-  here = ltb-false _ _ (front_ends (λ x. ltb x q) 0 xs h);
+  before = λ k lt. ltb-true _ _ (prefix_len_passes (λ x. ltb x q) xs k 0 lt);
+  here = ltb-false _ _ (prefix_len_stops (λ x. ltb x q) xs 0 h);
 }
 
 pub multiply_means : (n q need : ℕ) (left right : List ℕ) (scratch output : ℕ) → MultiplyMeans n q need left right scratch output (multiply_answer n q need left right scratch output)
@@ -46,8 +69,3 @@ multiply_means n q need left right scratch output =
     (λ short. inr (left_long, inr (right_long, inl (refl, leb-false _ _ short)))))
     (λ other. inr (left_long, inl (refl, eqb-false _ _ other))))
     (λ other. inl (refl, eqb-false _ _ other))
-
--- what is known where a multiplication is accepted
-pub accepted : (n q need : ℕ) (left right : List ℕ) (scratch output : ℕ) → Ok tt ≡ multiply_answer n q need left right scratch output → Fitting n q need left right scratch output
-accepted n q need left right scratch output ok =
-    subst (MultiplyMeans n q need left right scratch output) (sym ok) (multiply_means n q need left right scratch output)

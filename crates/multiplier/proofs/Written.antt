@@ -1,15 +1,13 @@
--- A list that holds the product, coefficient by coefficient; what the inner functions are handed once lists are accepted.
-use Rattle.std.proofs.Common.{◌≡◌, ℕ, ◌-◌, ◌*◌, ◌%◌, ◌<◌, ◌≤◌, List, ◌++◌, map, length, get_or, Ok, sym, ap, ◌∙◌, subst, ⊎_elim, arith}
+-- A list that holds the product, coefficient by coefficient, and the words of a row sum.
+use Rattle.std.proofs.Common.{◌≡◌, ℕ, ◌-◌, ◌*◌, ◌%◌, ◌<◌, ◌≤◌, List, ◌++◌, map, length, get_or, sym, ap, ◌∙◌, subst, ⊎_elim, arith}
 use Rattle.std.proofs.lemmas.Nat.{mod_below}
 use Rattle.std.proofs.lemmas.List.{ext_get_or, get_or-map, get_or_append_left, get_or-append_right, length-append, length-map}
 use Rattle.std.proofs.lemmas.Bool.{cases_lt}
 use Rattle.element.specs.Products.{product}
 use Rattle.element.proofs.Shapes.{length_product, get_or_product}
-use Rattle.multiplier.specs.Multipliers.{AllBelow, multiply_answer}
-use Rattle.multiplier.specs.Sums.{Factors, Rows, negated, coefficient_mod, sum_of_rows}
-use Rattle.multiplier.specs.declared.quotient.QuotientRing.{QuotientRing}
+use Rattle.multiplier.specs.Multipliers.{AllBelow}
+use Rattle.multiplier.specs.Sums.{AreFactors, AreRows, negated, coefficient_mod, sum_of_rows}
 use Rattle.multiplier.proofs.Coefficients.{row_sum_is_coefficient}
-use Rattle.multiplier.proofs.Refusals.{accepted}
 
 pub written : (n q : ℕ) (left right output : List ℕ) → length output ≡ n → ((k : ℕ) → k < n → get_or output k 0 ≡ coefficient_mod n q left right k) → output ≡ product n q left right
 written n q left right output long each =
@@ -27,9 +25,9 @@ words_below_q q right some below k h =
     (below (k - length right) (omega (arith, h, length-append (map (negated q) right) right, length-map right (negated q)))))
     (cases_lt k (length right))
 
-module _ (q : ℕ) (left right : List ℕ) (f : Factors q left right) where
+module _ (q : ℕ) (left right : List ℕ) (f : AreFactors q left right) where
   -- the words once they are written
-  pub rows : (words : List ℕ) → words ≡ map (negated q) right ++ right → Rows left words
+  pub rows : (words : List ℕ) → words ≡ map (negated q) right ++ right → AreRows left words
   rows words words_are =
       let long : length words ≡ 2 * length left = ap length words_are ∙ simp (length-append, length-map) (omega (arith, f.long)) in
       record {
@@ -44,16 +42,3 @@ module _ (q : ℕ) (left right : List ℕ) (f : Factors q left right) where
   row_sums_are_product words result words_are long each =
       written (length left) q left right result long
       (λ k h. each k h ∙ ap (λ (ws : List ℕ). sum_of_rows left ws (length left) k % q) words_are ∙ row_sum_is_coefficient q left right k f.q_positive f.long h f.right_below)
-
-module _ (ring : QuotientRing) (need : ℕ) (left right : List ℕ) (scratch output : ℕ) (ok : Ok tt ≡ multiply_answer ring.degree ring.modulus.q need left right scratch output) where
-  pub factors : Factors ring.modulus.q left right
-  factors =
-      let fit = accepted ring.degree ring.modulus.q need left right scratch output ok in
-      record {
-        short = omega (arith, fit.left_long, ring.most);
-        long = fit.right_long ∙ sym fit.left_long;
-        q_positive = omega (arith, ring.modulus.at_least);
-        q_small = ring.modulus.below;
-        left_below = fit.left_below;
-        right_below = fit.right_below;
-      }

@@ -1,9 +1,9 @@
 -- No definitions: the proofs of the multipliers' law, which the source cites. A ring's degree is a power of two, since
 -- one bit of it is set.
 use Rattle.std.specs.Prelude.{◌≡◌, ℕ, zero, suc, ◌*◌, ◌/◌, ◌%◌, ◌^◌, ◌<◌, ◌≤◌}
-use Rattle.std.proofs.Common.{inl, inr, ⊎_elim, ap, ◌∙◌, pow-suc, arith, pow_pos, pow_mono}
+use Rattle.std.proofs.Common.{inl, inr, ⊎_elim, pow-suc, arith}
 use Rattle.std.specs.Int.Count.{ones, ones_step}
-use Rattle.std.proofs.lemmas.Nat.{ones_cat, ones_le_self, zero_from_ones}
+use Rattle.std.proofs.lemmas.Nat.{mul-le, ones_le_self, zero_from_ones}
 use Rattle.std.proofs.lemmas.Bool.{cases_eq}
 use Rattle.multiplier.specs.Multipliers.{IsDegree, InRange}
 use Rattle.multiplier.specs.declared.quotient.QuotientRing.{QuotientRing}
@@ -25,25 +25,10 @@ degree_from_ones n one most =
     let m = one_bit 11 n (omega arith) one in
     (m.0, omega (arith, m.1), m.2)
 
-pub ones_of_degree : (n : ℕ) → IsDegree n → ones n ≡ 1
-unfolding ones
-ones_of_degree n (m, most, is) = ap ones (is ∙ omega arith) ∙ ones_cat m 1 0 (pow_pos m)
-
-pub degree_most : (n : ℕ) → IsDegree n → n ≤ 1024
-degree_most n (m, most, is) = let bound : 2 ^ m ≤ 2 ^ 10 = pow_mono most in omega arith
-
-module _ (ring : QuotientRing) where
-  in_range : (need : ℕ) → need ≤ 65536 → InRange ring.degree ring.modulus.q need
-  in_range need most = record {
-    degree = degree_from_ones ring.degree ring.power ring.most;
-    modulus = record { odd = ring.modulus.odd; at_least = ring.modulus.at_least; below = ring.modulus.below };
-    need_most = most;
-  }
-
-  -- with no scratch words
-  pub schoolbook_in_range : InRange ring.degree ring.modulus.q 0
-  schoolbook_in_range = in_range 0 (omega arith)
-
-  -- with two scratch words for each coefficient
-  pub row_sum_in_range : InRange ring.degree ring.modulus.q (2 * ring.degree)
-  row_sum_in_range = in_range (2 * ring.degree) (omega (arith, ring.most))
+-- with no more than 64 scratch words for each coefficient
+pub in_range : (ring : QuotientRing) (words : ℕ) → words ≤ 64 → InRange ring.degree ring.modulus.q (words * ring.degree)
+in_range ring words few = record {
+  degree = degree_from_ones ring.degree ring.power ring.most;
+  modulus = record { odd = ring.modulus.odd; at_least = ring.modulus.at_least; below = ring.modulus.below };
+  need_most = omega (arith, mul-le words ring.degree 64 1024 few ring.most);
+}

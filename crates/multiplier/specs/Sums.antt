@@ -17,16 +17,12 @@ negated q x = (q - x) % q
 abbrev pub coefficient_mod : (n q : ℕ) (left right : List ℕ) (k : ℕ) → ℕ
 coefficient_mod n q left right k = residue q (coefficient n (at (map pos left)) (at (map pos right)) k)
 
--- the sum of left_i right_j over i + j = m - 1, for two lists of m numbers
-abbrev pub antidiagonal_sum : (left right : List ℕ) → ℕ
-antidiagonal_sum left right = nat_sum (length left) (λ i. slice_index left i * slice_index right (length left - 1 - i))
-
 -- what the first m rows add up to in the coefficient k
 abbrev pub sum_of_rows : (left words : List ℕ) (m k : ℕ) → ℕ
 sum_of_rows left words m k = nat_sum m (λ i. slice_index left i * slice_index words (length left - i + k))
 
 -- two lists of one length, at most 1024, of numbers below q
-pub record Factors (q : ℕ) (left right : List ℕ) : Type 0 where
+pub record AreFactors (q : ℕ) (left right : List ℕ) : Type 0 where
   pub short : length left ≤ 1024
   pub long : length right ≡ length left
   pub q_positive : 0 < q
@@ -35,7 +31,7 @@ pub record Factors (q : ℕ) (left right : List ℕ) : Type 0 where
   pub right_below : AllBelow q right
 
 -- at most 1024 left coefficients, and the words that their rows are taken from
-pub record Rows (left words : List ℕ) : Type 0 where
+pub record AreRows (left words : List ℕ) : Type 0 where
   pub short : length left ≤ 1024
   pub long : length words ≡ 2 * length left
   pub left_below : AllBelow (2 ^ 23) left

@@ -1,55 +1,58 @@
 // What is tested before a product is made.
-ghost use Rattle.std.specs.Prelude.{◌≡◌};
-ghost use Rattle.multiplier.specs.Multipliers.{MultiplyRefusesTheFirst, prefix_below, multiply_answer};
+ghost use Rattle.std.specs.Prelude.{◌≡◌, Ok, Err, MatchOption, MatchResult};
+ghost use Rattle.multiplier.specs.Multipliers.{AllBelow, FirstNotBelow, MultiplyRefusesTheFirst, multiply_answer};
 
+use crate::factors::Factors;
 use crate::quotient::QuotientRing;
 use ring::Fault;
 
-// How many numbers come before the first that is not below q.
-fn front_below(xs: &[u32], q: u32) -> usize
-    ensures { result ≡ prefix_below q xs.now }
+// The index of the first number that is not below q.
+fn first_not_below(xs: &[u32], q: u32) -> Option<usize>
+    ensures { MatchOption result (AllBelow q xs.now) (FirstNotBelow q xs.now) }
 {
-    for (i, x) in xs.iter().enumerate() {
-        if *x >= q {
-            return i;
-        }
-    }
-    xs.len()
+    xs.iter().position(|x| *x >= q)
 }
 
-// Whether the lists and buffers fit the ring and the need, or the first fault.
-pub(crate) fn check(
-    ring: QuotientRing,
-    need: usize,
-    left: &[u32],
-    right: &[u32],
-    scratch: usize,
-    output: usize,
-) -> Result<(), Fault>
-    ensures { result ≡ multiply_answer ring.degree ring.modulus.q need left.now right.now scratch output }
-{
-    let n = ring.degree();
-    if left.len() != n {
-        return Err(Fault::WrongLength(1));
+impl<'a> Factors<'a> {
+    // The two lists, if they and the buffers fit the ring and the need, or the first fault.
+    #[tactic(auto, using(crate::proofs::Refusals::front_stops, crate::proofs::Refusals::front_reaches))]
+    pub(crate) fn check(
+        ring: QuotientRing,
+        need: usize,
+        left: &'a [u32],
+        right: &'a [u32],
+        scratch: usize,
+        output: usize,
+    ) -> Result<Self, Fault>
+        ensures answer { MatchResult result
+            (λ _. Ok tt ≡ multiply_answer ring.degree ring.modulus.q need left.now right.now scratch output)
+            (λ fault. Err fault ≡ multiply_answer ring.degree ring.modulus.q need left.now right.now scratch output) }
+        ensures same_left { MatchResult result (λ factors. factors.left.now ≡ left.now) (λ _. Unit {0}) }
+        ensures same_right { MatchResult result (λ factors. factors.right.now ≡ right.now) (λ _. Unit {0}) }
+        ensures same_modulus { MatchResult result (λ factors. factors.q ≡ ring.modulus.q) (λ _. Unit {0}) }
+    {
+        let n = ring.degree();
+        let q = ring.modulus();
+        if left.len() != n {
+            return Err(Fault::WrongLength(1));
+        }
+        if right.len() != n {
+            return Err(Fault::WrongLength(2));
+        }
+        if scratch < need {
+            return Err(Fault::WrongLength(3));
+        }
+        if output != n {
+            return Err(Fault::WrongLength(4));
+        }
+        if let Some(i) = first_not_below(left, q) {
+            return Err(Fault::OutOfRange(i));
+        }
+        if let Some(i) = first_not_below(right, q) {
+            return Err(Fault::OutOfRange(n + i));
+        }
+        Ok(Factors { left, right, q })
     }
-    if right.len() != n {
-        return Err(Fault::WrongLength(2));
-    }
-    if scratch < need {
-        return Err(Fault::WrongLength(3));
-    }
-    if output != n {
-        return Err(Fault::WrongLength(4));
-    }
-    let front = front_below(left, ring.modulus());
-    if front < n {
-        return Err(Fault::OutOfRange(front));
-    }
-    let front = front_below(right, ring.modulus());
-    if front < n {
-        return Err(Fault::OutOfRange(n + front));
-    }
-    Ok(())
 }
 
 // Multiplying accepts exactly the lists and buffers that fit, and refuses any others at the first place where they do

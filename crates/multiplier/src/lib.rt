@@ -2,9 +2,11 @@
 #![tactic(auto)]
 
 mod checks;
+mod factors;
+mod in_ring;
+mod method;
 mod multiplier;
 mod quotient;
-mod rings;
 mod row_sum;
 mod schoolbook;
 mod scratch;

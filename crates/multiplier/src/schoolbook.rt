@@ -1,104 +1,61 @@
 // The schoolbook product: for each coefficient in turn its sum.
-ghost use Rattle.std.specs.Prelude.{◌≡◌, ◌*◌, ◌<◌, ◌≤◌, length};
+ghost use Rattle.std.specs.Prelude.{◌≡◌, ◌*◌, ◌^◌, ◌<◌, length, reverse, sum_by, zip};
 ghost use Rattle.element.specs.Products.{product};
-ghost use Rattle.multiplier.specs.Sums.{Factors, antidiagonal_sum, coefficient_mod};
-ghost use Rattle.multiplier.specs.LawProofs.{schoolbook_in_range};
+ghost use Rattle.multiplier.specs.Sums.{coefficient_mod};
 
-use crate::checks::check;
-use crate::multiplier::Multiplier;
-use crate::quotient::QuotientRing;
-use crate::scratch::ScratchGuard;
-use ring::Fault;
+use crate::factors::Factors;
+use crate::in_ring::InRing;
+use crate::method::Method;
 
 // Multiplies by the sum for each coefficient, with no scratch.
+pub type Schoolbook = InRing<ByCoefficient>;
+
+// The method that takes the sum for each coefficient in turn.
 #[derive(Clone, Copy)]
-pub struct Schoolbook {
-    ring: QuotientRing,
+pub struct ByCoefficient;
+
+// The sum of left[i] right[m - 1 - i], for two lists of m numbers.
+fn reversed_dot(left: &[u32], right: &[u32]) -> u64
+    requires { sum_by (λ p. p.0 * p.1) (zip left.now (reverse right.now)) < 2 ^ 64 }
+    ensures { result ≡ sum_by (λ p. p.0 * p.1) (zip left.now (reverse right.now)) }
+{
+    left.iter()
+        .zip(right.iter().rev())
+        .map(|(x, y)| u64::from(*x) * u64::from(*y))
+        .sum()
 }
 
-impl Schoolbook {
-    pub fn new(ring: QuotientRing) -> Self
-        ensures { result.ring ≡ ring }
+impl Factors<'_> {
+    // The coefficient k of the product: the pairs with i + j = k, less those with i + j = k + n.
+    #[tactic(auto, using(crate::proofs::ReversedDots::difference_of_parts))]
+    fn coefficient(self, k: usize) -> u32
+        requires { k < length self.left.now }
+        ensures { result ≡ coefficient_mod (length self.entry.left.now) self.entry.q self.entry.left.now self.entry.right.now k }
     {
-        Schoolbook { ring }
+        let Factors { left, right, q } = self;
+        let n = left.len();
+        let modulus = u64::from(q);
+        let plus = reversed_dot(&left[..=k], &right[..=k]);
+        let minus = reversed_dot(&left[k + 1..], &right[k + 1..]);
+        // a multiple of q that is no less than minus
+        let lift = n as u64 * modulus * modulus;
+        ((plus + lift - minus) % modulus) as u32
     }
 }
 
-// The sum of left[i] right[m - 1 - i], for two lists of m numbers below q.
-#[tactic(auto, using(crate::proofs::NaturalSums::sum_steps))]
-fn reversed_dot(left: &[u32], right: &[u32], q: u32) -> u64
-    requires { Factors q left.now right.now }
-    ensures value { result ≡ antidiagonal_sum left.now right.now }
-    ensures bound { result ≤ length left.now * (q * q) }
-{
-    let m = left.len();
-    let mut sum: u64 = 0;
-    for (i, x) in left.iter().enumerate() {
-        sum += u64::from(*x) * u64::from(right[m - 1 - i]);
-    }
-    sum
-}
+impl Method for ByCoefficient {
+    ghost WORDS = { 0 };
 
-// The coefficient k of the product: the pairs with i + j = k, less those with i + j = k + n.
-#[tactic(auto, using(crate::proofs::ReversedDots::difference_of_parts))]
-fn coefficient(left: &[u32], right: &[u32], k: usize, q: u32) -> u32
-    requires inside { k < length left.now }
-    requires factors { Factors q left.now right.now }
-    ensures { result ≡ coefficient_mod (length left.now) q left.now right.now k }
-{
-    let n = left.len();
-    let modulus = u64::from(q);
-    let plus = reversed_dot(&left[0..k + 1], &right[0..k + 1], q);
-    let minus = reversed_dot(&left[k + 1..n], &right[k + 1..n], q);
-    // a multiple of q that is no less than minus
-    let lift = n as u64 * modulus * modulus;
-    ((plus + lift - minus) % modulus) as u32
-}
+    const WORDS: usize = 0;
 
-#[tactic(auto, using(crate::proofs::Written::written))]
-fn write_product(left: &[u32], right: &[u32], q: u32, output: &mut [u32])
-    requires long { length output.old ≡ length left.now }
-    requires factors { Factors q left.now right.now }
-    ensures { output.new ≡ product (length left.now) q left.now right.now }
-{
-    for k in 0..output.len() {
-        output[k] = coefficient(left, right, k, q);
-    }
-}
+    ghost use Rattle.std.proofs.Common.{arith};
 
-impl Multiplier for Schoolbook {
-    ghost n = { λ m. m.ring.degree };
+    ghost few = { Prim.omega arith };
 
-    ghost q = { λ m. m.ring.modulus.q };
-
-    ghost need = { λ _. 0 };
-
-    ghost lawful = { λ m. schoolbook_in_range m.ring };
-
-    fn degree(&self) -> usize {
-        self.ring.degree()
-    }
-
-    fn modulus(&self) -> u32 {
-        self.ring.modulus()
-    }
-
-    fn scratch_words(&self) -> usize {
-        0
-    }
-
-    #[tactic(auto, using(crate::proofs::Written::factors))]
-    fn multiply(
-        &mut self,
-        left: &[u32],
-        right: &[u32],
-        scratch: &mut [u32],
-        output: &mut [u32],
-    ) -> Result<(), Fault> {
-        let room = scratch.len();
-        let _guard = ScratchGuard { words: scratch };
-        check(self.ring, 0, left, right, room, output.len())?;
-        write_product(left, right, self.ring.modulus(), output);
-        Ok(())
+    #[tactic(auto, using(crate::proofs::Written::written))]
+    fn write_product(factors: Factors<'_>, _words: &mut [u32], output: &mut [u32]) {
+        for (k, coefficient) in output.iter_mut().enumerate() {
+            *coefficient = factors.coefficient(k);
+        }
     }
 }

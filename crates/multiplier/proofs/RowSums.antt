@@ -1,14 +1,14 @@
 -- A row: the words from n - i + start on.
 use Rattle.std.proofs.Common.{◌≡◌, ℕ, ◌+◌, ◌-◌, ◌*◌, ◌^◌, ◌<◌, ◌≤◌, List, length, get_or, take, drop, sym, ap, ◌∙◌, add_assoc, arith}
 use Rattle.std.proofs.lemmas.List.{get_or-take, get_or-drop}
-use Rattle.multiplier.specs.Sums.{Rows, sum_of_rows}
+use Rattle.multiplier.specs.Sums.{AreRows, sum_of_rows}
 use Rattle.multiplier.proofs.NaturalSums.{nat_sum_none, nat_sum_more, products_fit}
 
 -- the part of the words that the left coefficient i multiplies
 abbrev pub row : (left words : List ℕ) (start many i : ℕ) → List ℕ
 row left words start many i = take (length left - i + start + many - (length left - i + start)) (drop (length left - i + start) words)
 
-module _ (left words : List ℕ) (start many : ℕ) (rows : Rows left words) (inside : start + many ≤ length left) where
+module _ (left words : List ℕ) (start many : ℕ) (rows : AreRows left words) (inside : start + many ≤ length left) where
   pub row_at : (i t : ℕ) → t < many → get_or (row left words start many i) t 0 ≡ get_or words (length left - i + (start + t)) 0
   row_at i t h =
       get_or-take (length left - i + start + many - (length left - i + start)) (drop (length left - i + start) words) t 0 (omega arith)

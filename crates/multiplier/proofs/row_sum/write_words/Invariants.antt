@@ -1,8 +1,0 @@
-use Rattle.std.proofs.Common.{◌≡◌, ℕ, ◌+◌, ◌<◌, length, get_or}
-use Rattle.multiplier.specs.Sums.{negated}
-use Rattle.multiplier.proofs.row_sum.write_words.Given as goal
-
-abbrev pub invariant-loop-j : goal.invariant-loop-j
-invariant-loop-j l =
-    ((u : ℕ) → u < l.j → get_or l.words u 0 ≡ negated l.q (get_or l.right u 0))
-    × ((u : ℕ) → u < l.j → get_or l.words (length l.right + u) 0 ≡ get_or l.right u 0)

@@ -1,6 +1,0 @@
-use Rattle.std.proofs.Common.{◌≡◌, ℕ, ◌<◌, length, get_or}
-use Rattle.multiplier.specs.Sums.{coefficient_mod}
-use Rattle.multiplier.proofs.schoolbook.write_product.Given as goal
-
-abbrev pub invariant-loop-k : goal.invariant-loop-k
-invariant-loop-k l = (j : ℕ) → j < l.k → get_or l.output j 0 ≡ coefficient_mod (length l.left) l.q l.left l.right j
