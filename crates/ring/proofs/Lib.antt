@@ -1,2 +1,1 @@
 pub mod Residues
-pub mod Fronts
