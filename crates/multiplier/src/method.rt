@@ -17,5 +17,6 @@ pub trait Method {
         requires output_long { length output.old ≡ length factors.left.now }
         ensures { output.new ≡ product (length factors.entry.left.now) factors.entry.q factors.entry.left.now factors.entry.right.now };
 
+    // for n of at most 1024 the need is then at most 65536 words
     ghost few: { WORDS ≤ 64 };
 }

@@ -43,7 +43,7 @@ fn add_multiple(sums: &mut [u64], x: u32, row: &[u32])
 impl<'a> Rows<'a> {
     // Writes the right list negated modulo q, then the right list, and takes the rows from these words.
     #[tactic(auto, using(crate::proofs::Written::rows))]
-    fn lay(factors: Factors<'a>, words: &'a mut [u32]) -> Self
+    fn from_factors(factors: Factors<'a>, words: &'a mut [u32]) -> Self
         requires { length words.old ≡ 2 * length factors.left.now }
         ensures left { result.left.now ≡ factors.entry.left.now }
         ensures words { result.words.now ≡ map (negated factors.entry.q) factors.entry.right.now ++ factors.entry.right.now }
@@ -117,6 +117,6 @@ impl Method for ByRow {
 
     #[tactic(auto, using(crate::proofs::Written::row_sums_are_product))]
     fn write_product(factors: Factors<'_>, words: &mut [u32], output: &mut [u32]) {
-        Rows::lay(factors, words).write_sums(output);
+        Rows::from_factors(factors, words).write_sums(output);
     }
 }
