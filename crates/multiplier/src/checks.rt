@@ -29,7 +29,7 @@ impl<'a> Factors<'a> {
             (λ fault. Err fault ≡ multiply_answer ring.degree ring.modulus.q need left.now right.now scratch output) }
         ensures same_left { IfOk result (λ factors. factors.left.now ≡ left.now) }
         ensures same_right { IfOk result (λ factors. factors.right.now ≡ right.now) }
-        ensures same_modulus { IfOk result (λ factors. factors.q ≡ ring.modulus.q) }
+        ensures same_modulus { IfOk result (λ factors. factors.modulus ≡ ring.modulus) }
     {
         let n = ring.degree();
         let q = ring.modulus();
@@ -51,7 +51,11 @@ impl<'a> Factors<'a> {
         if let Some(i) = first_not_below(right, q) {
             return Err(Fault::OutOfRange(n + i));
         }
-        Ok(Factors { left, right, q })
+        Ok(Factors {
+            left,
+            right,
+            modulus: ring.modulus,
+        })
     }
 }
 

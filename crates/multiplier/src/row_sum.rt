@@ -6,6 +6,7 @@ ghost use Rattle.multiplier.specs.Sums.{AreRows, negated, sum_of_rows};
 use crate::factors::Factors;
 use crate::in_ring::InRing;
 use crate::method::Method;
+use ring::Modulus;
 
 // Multiplies by adding multiples of rows, with 2n words of scratch: the right list negated, then the right list. The n
 // words from place n - i on are the right list times x^i.
@@ -20,9 +21,8 @@ pub struct ByRow;
 struct Rows<'a> {
     left: &'a [u32],
     words: &'a [u32],
-    q: u32,
+    modulus: Modulus,
     ghost fit: { AreRows left.now words.now },
-    ghost positive: { 0 < q },
 }
 
 // So many 64-bit sums are added up at a time, few enough for registers.
@@ -46,16 +46,25 @@ impl<'a> Rows<'a> {
     fn from_factors(factors: Factors<'a>, words: &'a mut [u32]) -> Self
         requires { length words.old ≡ 2 * length factors.left.now }
         ensures left { result.left.now ≡ factors.entry.left.now }
-        ensures words { result.words.now ≡ map (negated factors.entry.q) factors.entry.right.now ++ factors.entry.right.now }
-        ensures modulus { result.q ≡ factors.entry.q }
+        ensures words { result.words.now ≡ map (negated factors.entry.modulus.q) factors.entry.right.now ++ factors.entry.right.now }
+        ensures modulus { result.modulus ≡ factors.entry.modulus }
     {
-        let Factors { left, right, q } = factors;
+        let Factors {
+            left,
+            right,
+            modulus,
+        } = factors;
+        let q = modulus.value();
         let (negated, copied) = words.split_at_mut(right.len());
         for (j, word) in negated.iter_mut().enumerate() {
             *word = (q - right[j]) % q;
         }
         copied.copy_from_slice(right);
-        Rows { left, words, q }
+        Rows {
+            left,
+            words,
+            modulus,
+        }
     }
 
     // Adds all rows to the sums, which are those of the coefficients from `start` on.
@@ -80,12 +89,13 @@ impl<'a> Rows<'a> {
         requires tile { length output.old ≡ N }
         requires inside { start + N ≤ length self.left.now }
         ensures { (t : ℕ) → t < N
-            → slice_index output.new t ≡ sum_of_rows self.entry.left.now self.entry.words.now (length self.entry.left.now) (start + t) % self.entry.q }
+            → slice_index output.new t ≡ sum_of_rows self.entry.left.now self.entry.words.now (length self.entry.left.now) (start + t) % self.entry.modulus.q }
     {
         let mut sums = [0; N];
         self.add_to(&mut sums, start);
+        let q = u64::from(self.modulus.value());
         for (t, coefficient) in output.iter_mut().enumerate() {
-            *coefficient = (sums[t] % u64::from(self.q)) as u32;
+            *coefficient = (sums[t] % q) as u32;
         }
     }
 
@@ -93,7 +103,7 @@ impl<'a> Rows<'a> {
     fn write_sums(self, output: &mut [u32])
         requires { length output.old ≡ length self.left.now }
         ensures { (k : ℕ) → k < length output.old
-            → slice_index output.new k ≡ sum_of_rows self.entry.left.now self.entry.words.now (length self.entry.left.now) k % self.entry.q }
+            → slice_index output.new k ≡ sum_of_rows self.entry.left.now self.entry.words.now (length self.entry.left.now) k % self.entry.modulus.q }
     {
         let n = self.left.len();
         for i in 0..n / TILE {
