@@ -1,12 +1,12 @@
 // The row sum: for each left coefficient a multiple of a row of the right list.
 ghost use Rattle.std.specs.Prelude.{◌≡◌, ℕ, ◌+◌, ◌*◌, ◌%◌, ◌^◌, ◌<◌, ◌≤◌, ◌++◌, map, length, slice_index};
-ghost use Rattle.element.specs.Products.{product};
-ghost use Rattle.multiplier.specs.Sums.{AreRows, negated, sum_of_rows};
+ghost use Rattle.multiplier.specs.Methods.{product_of, row_sum};
+ghost use Rattle.multiplier.specs.Sums.{negated};
 
 use crate::factors::Factors;
 use crate::in_ring::InRing;
 use crate::method::Method;
-use ring::Modulus;
+use crate::rows::Rows;
 
 // Multiplies by adding multiples of rows, with 2n words of scratch: the right list negated, then the right list. The n
 // words from place n - i on are the right list times x^i.
@@ -15,15 +15,6 @@ pub type RowSum = InRing<ByRow>;
 // The method that adds for each left coefficient a multiple of a row.
 #[derive(Clone, Copy)]
 pub struct ByRow;
-
-// The left coefficients, and the words that their rows are taken from.
-#[derive(Clone, Copy)]
-struct Rows<'a> {
-    left: &'a [u32],
-    words: &'a [u32],
-    modulus: Modulus,
-    ghost fit: { AreRows left.now words.now },
-}
 
 // So many 64-bit sums are added up at a time, few enough for registers.
 const TILE: usize = 4;
@@ -73,7 +64,7 @@ impl<'a> Rows<'a> {
         requires inside { start + length sums.old ≤ length self.left.now }
         requires zero { (t : ℕ) → t < length sums.old → slice_index sums.old t ≡ 0 }
         ensures { (t : ℕ) → t < length sums.old
-            → slice_index sums.new t ≡ sum_of_rows self.entry.left.now self.entry.words.now (length self.entry.left.now) (start + t) }
+            → slice_index sums.new t ≡ row_sum self.entry (start + t) }
     {
         let Rows { left, words, .. } = self;
         let n = left.len();
@@ -89,7 +80,7 @@ impl<'a> Rows<'a> {
         requires tile { length output.old ≡ N }
         requires inside { start + N ≤ length self.left.now }
         ensures { (t : ℕ) → t < N
-            → slice_index output.new t ≡ sum_of_rows self.entry.left.now self.entry.words.now (length self.entry.left.now) (start + t) % self.entry.modulus.q }
+            → slice_index output.new t ≡ row_sum self.entry (start + t) % self.entry.modulus.q }
     {
         let mut sums = [0; N];
         self.add_to(&mut sums, start);
@@ -103,7 +94,7 @@ impl<'a> Rows<'a> {
     fn write_sums(self, output: &mut [u32])
         requires { length output.old ≡ length self.left.now }
         ensures { (k : ℕ) → k < length output.old
-            → slice_index output.new k ≡ sum_of_rows self.entry.left.now self.entry.words.now (length self.entry.left.now) k % self.entry.modulus.q }
+            → slice_index output.new k ≡ row_sum self.entry k % self.entry.modulus.q }
     {
         let n = self.left.len();
         for i in 0..n / TILE {

@@ -1,7 +1,6 @@
 // The schoolbook product: for each coefficient in turn its sum.
 ghost use Rattle.std.specs.Prelude.{◌≡◌, ◌*◌, ◌^◌, ◌<◌, length, reverse, sum_by, zip};
-ghost use Rattle.element.specs.Products.{product};
-ghost use Rattle.multiplier.specs.Sums.{coefficient_mod};
+ghost use Rattle.multiplier.specs.Methods.{coefficient_of, product_of};
 
 use crate::factors::Factors;
 use crate::in_ring::InRing;
@@ -30,7 +29,7 @@ impl Factors<'_> {
     #[tactic(auto, using(crate::proofs::ReversedDots::difference_of_parts))]
     fn coefficient(self, k: usize) -> u32
         requires { k < length self.left.now }
-        ensures { result ≡ coefficient_mod (length self.entry.left.now) self.entry.modulus.q self.entry.left.now self.entry.right.now k }
+        ensures { result ≡ coefficient_of self.entry k }
     {
         let Factors {
             left,
