@@ -11,6 +11,7 @@ use ring::{Fault, Modulus};
 // No profile has a larger n.
 const ROOM: usize = 1024;
 
+// The modulus of the profile.
 #[tactic(auto, using(crate::proofs::Ranges::q_least))]
 fn modulus<P: Profile>() -> Modulus
     ensures { result.q ≡ P.NUMBERS.q }
