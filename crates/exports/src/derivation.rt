@@ -11,7 +11,7 @@ use crate::codes::{Coded, NO_CALL};
 use keccak::shake128;
 use source::{ShakeSource, Tape, derive};
 
-// A tape's bytes are given for every seed.
+// A source of the tape's bytes, which it gives for every seed; clauses ask it for those of the empty one.
 fn tape_source(tape: &[u8]) -> Tape<'_>
     ensures { tape_meaning result [] ≡ tape.now }
 {
@@ -23,10 +23,8 @@ pub fn exported_derive_tape(profile: u8, tape: &[u8], output: &mut [u32]) -> u64
     ensures writes { output.new
         ≡ by_profile (λ numbers _. derive_output numbers tape.now output.old) output.old profile }
 {
-    by_index!(
-        profile,
-        derive::<P, _>(&mut tape_source(tape), &[0; 16], output).code()
-    )
+    let source = &mut tape_source(tape);
+    by_index!(profile, derive::<P, _>(source, &[0; 16], output).code())
 }
 
 // By SHAKE128 of a seed, if it has 16 bytes.
@@ -37,10 +35,8 @@ pub fn exported_derive_shake(profile: u8, seed: &[u8], output: &mut [u32]) -> u6
     let Ok(seed) = <[u8; 16]>::try_from(seed) else {
         return NO_CALL;
     };
-    by_index!(
-        profile,
-        derive::<P, _>(&mut ShakeSource::new(), &seed, output).code()
-    )
+    let source = &mut ShakeSource::new();
+    by_index!(profile, derive::<P, _>(source, &seed, output).code())
 }
 
 pub fn exported_shake128(message: &[u8], output: &mut [u8])

@@ -7,5 +7,5 @@ mod sponge;
 mod theorems;
 
 pub use output::shake128;
-pub use sponge::Shake128;
+pub use sponge::{RATE, Shake128};
 pub use theorems::{output_laws, tables_follow_the_rules};

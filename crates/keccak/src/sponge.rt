@@ -6,7 +6,7 @@ ghost use Rattle.keccak.specs.Sponge.{rate, padding, added, absorbed, output_blo
 use crate::permutation::keccak_f;
 
 // The bytes of a block.
-pub(crate) const RATE: usize = 168;
+pub const RATE: usize = 168;
 
 // A sponge that has absorbed a message. It permutes when a block is asked for, and not after.
 #[derive(Drop)]

@@ -6,6 +6,7 @@ use Rattle.std.proofs.lemmas.Bool.{cases_lt}
 use Rattle.element.specs.Products.{product}
 use Rattle.element.proofs.Shapes.{length_product, get_or_product}
 use Rattle.multiplier.specs.Multipliers.{AllBelow}
+use Rattle.ring.specs.declared.modulus.Modulus.{Modulus}
 use Rattle.multiplier.specs.Sums.{AreFactors, AreRows, negated, coefficient_mod, sum_of_rows}
 use Rattle.multiplier.proofs.Coefficients.{row_sum_is_coefficient}
 
@@ -25,7 +26,10 @@ words_below_q q right some below k h =
     (below (k - length right) (omega (arith, h, length-append (map (negated q) right) right, length-map right (negated q)))))
     (cases_lt k (length right))
 
-module _ (q : ℕ) (left right : List ℕ) (f : AreFactors q left right) where
+module _ (modulus : Modulus) (left right : List ℕ) (f : AreFactors modulus.q left right) where
+  abbrev q : ℕ
+  q = modulus.q
+
   -- the words once they are written
   pub rows : (words : List ℕ) → words ≡ map (negated q) right ++ right → AreRows left words
   rows words words_are =
@@ -33,12 +37,12 @@ module _ (q : ℕ) (left right : List ℕ) (f : AreFactors q left right) where
       record {
         short = f.short;
         long = long;
-        left_below = λ k h. omega (arith, f.left_below k h, f.q_small);
-        words_below = λ k h. omega (arith, subst (AllBelow q) (sym words_are) (words_below_q q right f.q_positive f.right_below) k h, f.q_small);
+        left_below = λ k h. omega (arith, f.left_below k h, modulus.below);
+        words_below = λ k h. omega (arith, subst (AllBelow q) (sym words_are) (words_below_q q right (omega (arith, modulus.at_least)) f.right_below) k h, modulus.below);
       }
 
   -- the row sums modulo q are the product
   pub row_sums_are_product : (words result : List ℕ) → words ≡ map (negated q) right ++ right → length result ≡ length left → ((k : ℕ) → k < length left → get_or result k 0 ≡ sum_of_rows left words (length left) k % q) → result ≡ product (length left) q left right
   row_sums_are_product words result words_are long each =
       written (length left) q left right result long
-      (λ k h. each k h ∙ ap (λ (ws : List ℕ). sum_of_rows left ws (length left) k % q) words_are ∙ row_sum_is_coefficient q left right k f.q_positive f.long h f.right_below)
+      (λ k h. each k h ∙ ap (λ (ws : List ℕ). sum_of_rows left ws (length left) k % q) words_are ∙ row_sum_is_coefficient q left right k (omega (arith, modulus.at_least)) f.long h f.right_below)

@@ -1,4 +1,5 @@
 pub mod Multipliers
 pub mod Scratch
 pub mod Sums
+pub mod Methods
 pub mod LawProofs

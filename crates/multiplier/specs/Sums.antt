@@ -1,5 +1,5 @@
 -- The sums that the two multipliers add up in natural numbers, before one reduction modulo q.
-use Rattle.std.specs.Prelude.{◌≡◌, ℕ, zero, suc, ◌+◌, ◌-◌, ◌*◌, ◌%◌, ◌^◌, ◌<◌, ◌≤◌, List, map, length, pos, slice_index}
+use Rattle.std.specs.Prelude.{◌≡◌, ℕ, zero, suc, ◌+◌, ◌-◌, ◌*◌, ◌%◌, ◌^◌, ◌≤◌, List, map, length, pos, slice_index}
 use Rattle.ring.specs.Residues.{residue}
 use Rattle.element.specs.Products.{coefficient, at}
 use Rattle.multiplier.specs.Multipliers.{AllBelow}
@@ -25,8 +25,6 @@ sum_of_rows left words m k = nat_sum m (λ i. slice_index left i * slice_index w
 pub record AreFactors (q : ℕ) (left right : List ℕ) : Type 0 where
   pub short : length left ≤ 1024
   pub long : length right ≡ length left
-  pub q_positive : 0 < q
-  pub q_small : q < 2 ^ 23
   pub left_below : AllBelow q left
   pub right_below : AllBelow q right
 

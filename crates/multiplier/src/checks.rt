@@ -1,5 +1,5 @@
 // What is tested before a product is made.
-ghost use Rattle.std.specs.Prelude.{◌≡◌, Ok, Err, MatchOption, MatchResult};
+ghost use Rattle.std.specs.Prelude.{◌≡◌, Ok, Err, IfOk, MatchOption, MatchResult};
 ghost use Rattle.multiplier.specs.Multipliers.{AllBelow, FirstNotBelow, MultiplyRefusesTheFirst, multiply_answer};
 
 use crate::factors::Factors;
@@ -27,9 +27,9 @@ impl<'a> Factors<'a> {
         ensures answer { MatchResult result
             (λ _. Ok tt ≡ multiply_answer ring.degree ring.modulus.q need left.now right.now scratch output)
             (λ fault. Err fault ≡ multiply_answer ring.degree ring.modulus.q need left.now right.now scratch output) }
-        ensures same_left { MatchResult result (λ factors. factors.left.now ≡ left.now) (λ _. Unit {0}) }
-        ensures same_right { MatchResult result (λ factors. factors.right.now ≡ right.now) (λ _. Unit {0}) }
-        ensures same_modulus { MatchResult result (λ factors. factors.q ≡ ring.modulus.q) (λ _. Unit {0}) }
+        ensures same_left { IfOk result (λ factors. factors.left.now ≡ left.now) }
+        ensures same_right { IfOk result (λ factors. factors.right.now ≡ right.now) }
+        ensures same_modulus { IfOk result (λ factors. factors.modulus ≡ ring.modulus) }
     {
         let n = ring.degree();
         let q = ring.modulus();
@@ -51,7 +51,11 @@ impl<'a> Factors<'a> {
         if let Some(i) = first_not_below(right, q) {
             return Err(Fault::OutOfRange(n + i));
         }
-        Ok(Factors { left, right, q })
+        Ok(Factors {
+            left,
+            right,
+            modulus: ring.modulus,
+        })
     }
 }
 

@@ -8,6 +8,7 @@ mod method;
 mod multiplier;
 mod quotient;
 mod row_sum;
+mod rows;
 mod schoolbook;
 mod scratch;
 

@@ -1,6 +1,6 @@
 // A method of multiplication.
 ghost use Rattle.std.specs.Prelude.{◌≡◌, ℕ, ◌*◌, ◌≤◌, length};
-ghost use Rattle.element.specs.Products.{product};
+ghost use Rattle.multiplier.specs.Methods.{product_of};
 
 use crate::factors::Factors;
 
@@ -15,7 +15,8 @@ pub trait Method {
     fn write_product(factors: Factors<'_>, words: &mut [u32], output: &mut [u32])
         requires words_long { length words.old ≡ WORDS * length factors.left.now }
         requires output_long { length output.old ≡ length factors.left.now }
-        ensures { output.new ≡ product (length factors.entry.left.now) factors.entry.q factors.entry.left.now factors.entry.right.now };
+        ensures { output.new ≡ product_of factors.entry };
 
+    // for n of at most 1024 the need is then at most 65536 words
     ghost few: { WORDS ≤ 64 };
 }

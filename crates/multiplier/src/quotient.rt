@@ -7,7 +7,7 @@ use ring::Modulus;
 #[derive(Clone, Copy, PartialEq, Eq, Debug)]
 pub struct QuotientRing {
     degree: usize,
-    modulus: Modulus,
+    pub(crate) modulus: Modulus,
     ghost power: { count_ones degree ≡ 1 },
     ghost most: { degree ≤ 1024 },
 }

@@ -1,11 +1,12 @@
 // The row sum: for each left coefficient a multiple of a row of the right list.
 ghost use Rattle.std.specs.Prelude.{◌≡◌, ℕ, ◌+◌, ◌*◌, ◌%◌, ◌^◌, ◌<◌, ◌≤◌, ◌++◌, map, length, slice_index};
-ghost use Rattle.element.specs.Products.{product};
-ghost use Rattle.multiplier.specs.Sums.{AreRows, negated, sum_of_rows};
+ghost use Rattle.multiplier.specs.Methods.{product_of, row_sum};
+ghost use Rattle.multiplier.specs.Sums.{negated};
 
 use crate::factors::Factors;
 use crate::in_ring::InRing;
 use crate::method::Method;
+use crate::rows::Rows;
 
 // Multiplies by adding multiples of rows, with 2n words of scratch: the right list negated, then the right list. The n
 // words from place n - i on are the right list times x^i.
@@ -14,16 +15,6 @@ pub type RowSum = InRing<ByRow>;
 // The method that adds for each left coefficient a multiple of a row.
 #[derive(Clone, Copy)]
 pub struct ByRow;
-
-// The left coefficients, and the words that their rows are taken from.
-#[derive(Clone, Copy)]
-struct Rows<'a> {
-    left: &'a [u32],
-    words: &'a [u32],
-    q: u32,
-    ghost fit: { AreRows left.now words.now },
-    ghost positive: { 0 < q },
-}
 
 // So many 64-bit sums are added up at a time, few enough for registers.
 const TILE: usize = 4;
@@ -43,19 +34,28 @@ fn add_multiple(sums: &mut [u64], x: u32, row: &[u32])
 impl<'a> Rows<'a> {
     // Writes the right list negated modulo q, then the right list, and takes the rows from these words.
     #[tactic(auto, using(crate::proofs::Written::rows))]
-    fn lay(factors: Factors<'a>, words: &'a mut [u32]) -> Self
+    fn from_factors(factors: Factors<'a>, words: &'a mut [u32]) -> Self
         requires { length words.old ≡ 2 * length factors.left.now }
         ensures left { result.left.now ≡ factors.entry.left.now }
-        ensures words { result.words.now ≡ map (negated factors.entry.q) factors.entry.right.now ++ factors.entry.right.now }
-        ensures modulus { result.q ≡ factors.entry.q }
+        ensures words { result.words.now ≡ map (negated factors.entry.modulus.q) factors.entry.right.now ++ factors.entry.right.now }
+        ensures modulus { result.modulus ≡ factors.entry.modulus }
     {
-        let Factors { left, right, q } = factors;
+        let Factors {
+            left,
+            right,
+            modulus,
+        } = factors;
+        let q = modulus.value();
         let (negated, copied) = words.split_at_mut(right.len());
         for (j, word) in negated.iter_mut().enumerate() {
             *word = (q - right[j]) % q;
         }
         copied.copy_from_slice(right);
-        Rows { left, words, q }
+        Rows {
+            left,
+            words,
+            modulus,
+        }
     }
 
     // Adds all rows to the sums, which are those of the coefficients from `start` on.
@@ -64,7 +64,7 @@ impl<'a> Rows<'a> {
         requires inside { start + length sums.old ≤ length self.left.now }
         requires zero { (t : ℕ) → t < length sums.old → slice_index sums.old t ≡ 0 }
         ensures { (t : ℕ) → t < length sums.old
-            → slice_index sums.new t ≡ sum_of_rows self.entry.left.now self.entry.words.now (length self.entry.left.now) (start + t) }
+            → slice_index sums.new t ≡ row_sum self.entry (start + t) }
     {
         let Rows { left, words, .. } = self;
         let n = left.len();
@@ -80,12 +80,13 @@ impl<'a> Rows<'a> {
         requires tile { length output.old ≡ N }
         requires inside { start + N ≤ length self.left.now }
         ensures { (t : ℕ) → t < N
-            → slice_index output.new t ≡ sum_of_rows self.entry.left.now self.entry.words.now (length self.entry.left.now) (start + t) % self.entry.q }
+            → slice_index output.new t ≡ row_sum self.entry (start + t) % self.entry.modulus.q }
     {
         let mut sums = [0; N];
         self.add_to(&mut sums, start);
+        let q = u64::from(self.modulus.value());
         for (t, coefficient) in output.iter_mut().enumerate() {
-            *coefficient = (sums[t] % u64::from(self.q)) as u32;
+            *coefficient = (sums[t] % q) as u32;
         }
     }
 
@@ -93,7 +94,7 @@ impl<'a> Rows<'a> {
     fn write_sums(self, output: &mut [u32])
         requires { length output.old ≡ length self.left.now }
         ensures { (k : ℕ) → k < length output.old
-            → slice_index output.new k ≡ sum_of_rows self.entry.left.now self.entry.words.now (length self.entry.left.now) k % self.entry.q }
+            → slice_index output.new k ≡ row_sum self.entry k % self.entry.modulus.q }
     {
         let n = self.left.len();
         for i in 0..n / TILE {
@@ -117,6 +118,6 @@ impl Method for ByRow {
 
     #[tactic(auto, using(crate::proofs::Written::row_sums_are_product))]
     fn write_product(factors: Factors<'_>, words: &mut [u32], output: &mut [u32]) {
-        Rows::lay(factors, words).write_sums(output);
+        Rows::from_factors(factors, words).write_sums(output);
     }
 }

@@ -1,7 +1,6 @@
 // The schoolbook product: for each coefficient in turn its sum.
 ghost use Rattle.std.specs.Prelude.{◌≡◌, ◌*◌, ◌^◌, ◌<◌, length, reverse, sum_by, zip};
-ghost use Rattle.element.specs.Products.{product};
-ghost use Rattle.multiplier.specs.Sums.{coefficient_mod};
+ghost use Rattle.multiplier.specs.Methods.{coefficient_of, product_of};
 
 use crate::factors::Factors;
 use crate::in_ring::InRing;
@@ -30,16 +29,20 @@ impl Factors<'_> {
     #[tactic(auto, using(crate::proofs::ReversedDots::difference_of_parts))]
     fn coefficient(self, k: usize) -> u32
         requires { k < length self.left.now }
-        ensures { result ≡ coefficient_mod (length self.entry.left.now) self.entry.q self.entry.left.now self.entry.right.now k }
+        ensures { result ≡ coefficient_of self.entry k }
     {
-        let Factors { left, right, q } = self;
+        let Factors {
+            left,
+            right,
+            modulus,
+        } = self;
         let n = left.len();
-        let modulus = u64::from(q);
+        let q = u64::from(modulus.value());
         let plus = reversed_dot(&left[..=k], &right[..=k]);
         let minus = reversed_dot(&left[k + 1..], &right[k + 1..]);
         // a multiple of q that is no less than minus
-        let lift = n as u64 * modulus * modulus;
-        ((plus + lift - minus) % modulus) as u32
+        let lift = n as u64 * q * q;
+        ((plus + lift - minus) % q) as u32
     }
 }
 

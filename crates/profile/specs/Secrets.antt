@@ -16,7 +16,7 @@ pub record Bounds : Type 0 where
 abbrev pub bounds_of : Numbers → Bounds
 bounds_of k = record { n = k.n; e = k.e; l = k.l }
 
--- what a place for n coefficients is made for
+-- what the secret of a place is held to, for its three parameters
 abbrev pub place_bounds : ℕ → ℕ → ℕ → Bounds
 place_bounds n e l = record { n = n; e = e; l = l }
 

@@ -5,14 +5,22 @@ ghost use Rattle.source.specs.Derivation.{derived, derive_answer};
 
 use crate::sampler::Sampler;
 use crate::source::ByteSource;
-use profile::{Numbers, Profile};
-use ring::Fault;
+use profile::Profile;
+use ring::{Fault, Modulus};
 
 // No profile has a larger n.
 const ROOM: usize = 1024;
 
+// The modulus of the profile.
+#[tactic(auto, using(crate::proofs::Ranges::q_least))]
+fn modulus<P: Profile>() -> Modulus
+    ensures { result.q ≡ P.NUMBERS.q }
+{
+    Modulus::new(P::NUMBERS.q).unwrap()
+}
+
 // The element of the seed.
-#[tactic(auto, using(profile::proofs::Ranges::n_most, crate::proofs::Ranges::q_least))]
+#[tactic(auto, using(profile::proofs::Ranges::n_most))]
 pub fn derive<P: Profile, S: ByteSource>(
     source: &mut S,
     seed: &[u8; 16],
@@ -24,11 +32,10 @@ pub fn derive<P: Profile, S: ByteSource>(
         output.new ≡ after result (derived P.NUMBERS.n P.NUMBERS.q bytes) output.old }
     ensures means { S.meaning source.new ≡ S.meaning source.old }
 {
-    let Numbers { n, q, .. } = P::NUMBERS;
-    if output.len() != n {
+    if output.len() != P::NUMBERS.n {
         return Err(Fault::WrongLength(4));
     }
     source.begin(seed);
     let mut room = [0; ROOM];
-    Sampler::below(q).fill_through(source, &mut room, output)
+    Sampler::below(modulus::<P>()).fill_through(source, &mut room, output)
 }

@@ -9,6 +9,7 @@ use crate::source::ByteSource;
 pub(crate) fn next_number<S: ByteSource>(source: &mut S, bytes: u32) -> Option<u32>
     requires { bytes ≤ 4 }
     ensures means { S.meaning source.new ≡ S.meaning source.old }
+    ensures reads { S.reading source.new ≡ S.reading source.old }
     ensures gives { GivesGroup bytes (ahead S.ByteSource source.old) result (ahead S.ByteSource source.new) }
 {
     let mut number = 0;

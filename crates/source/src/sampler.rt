@@ -1,5 +1,5 @@
 // Numbers below q, taken from a source's bytes.
-ghost use Rattle.std.specs.Prelude.{◌≡◌, ◌-◌, ◌^◌, ◌<◌, ◌≤◌, ◌∷◌, [], length, MatchOption, OnOk};
+ghost use Rattle.std.specs.Prelude.{◌≡◌, ◌-◌, ◌≤◌, ◌∷◌, [], length, MatchOption, OnOk};
 ghost use Rattle.ring.specs.Faults.{after};
 ghost use Rattle.source.specs.Derivation.{bits as bits_of, bytes_for, kept, derived, keep_answer};
 ghost use Rattle.source.specs.Reading.{ahead};
@@ -7,16 +7,15 @@ ghost use Rattle.source.specs.Reading.{ahead};
 use crate::bits::{bit_count, low_bits};
 use crate::group::next_number;
 use crate::source::ByteSource;
-use ring::Fault;
+use ring::{Fault, Modulus};
 
-// Reads groups of `bytes` bytes, and keeps the low `bits` bits of each where they are below q.
+// Reads groups of `bytes` bytes, and keeps the low `bits` bits of each where they are below the modulus.
 #[derive(Clone, Copy)]
 pub(crate) struct Sampler {
-    q: u32,
+    modulus: Modulus,
     bits: u32,
     bytes: u32,
-    ghost least: { 1 < q },
-    ghost width: { bits ≡ bits_of (q - 1) },
+    ghost width: { bits ≡ bits_of (modulus.q - 1) },
     ghost few: { bits ≤ 23 },
     ghost size: { bytes ≡ bytes_for bits },
 }
@@ -24,14 +23,12 @@ pub(crate) struct Sampler {
 impl Sampler {
     // Takes as many bits as q - 1 needs, and as many bytes as these bits need.
     #[tactic(auto, using(crate::proofs::BitCounts::bits_le))]
-    pub(crate) fn below(q: u32) -> Self
-        requires least { 1 < q }
-        requires most { q < 2 ^ 23 }
-        ensures { result.q ≡ q }
+    pub(crate) fn below(modulus: Modulus) -> Self
+        ensures { result.modulus ≡ modulus }
     {
-        let bits = bit_count(q - 1);
+        let bits = bit_count(modulus.value() - 1);
         Sampler {
-            q,
+            modulus,
             bits,
             bytes: bits.div_ceil(8),
         }
@@ -40,12 +37,13 @@ impl Sampler {
     // The next number that is kept, or nothing once the list is used up.
     fn next<S: ByteSource>(self, source: &mut S) -> Option<u32>
         ensures means { S.meaning source.new ≡ S.meaning source.old }
-        ensures gives { let all = kept self.q (ahead S.ByteSource source.old) in
-            MatchOption result (all ≡ []) (λ x. all ≡ x ∷ kept self.q (ahead S.ByteSource source.new)) }
+        ensures gives { let all = kept self.modulus.q (ahead S.ByteSource source.old) in
+            MatchOption result (all ≡ []) (λ x. all ≡ x ∷ kept self.modulus.q (ahead S.ByteSource source.new)) }
     {
+        let q = self.modulus.value();
         loop {
             let number = low_bits(next_number(source, self.bytes)?, self.bits);
-            if number < self.q {
+            if number < q {
                 return Some(number);
             }
         }
@@ -54,10 +52,10 @@ impl Sampler {
     // Fills `numbers` with the first ones that the list ahead gives, or says how many it gives.
     fn fill<S: ByteSource>(self, source: &mut S, numbers: &mut [u32]) -> Result<(), Fault>
         ensures means { S.meaning source.new ≡ S.meaning source.old }
-        ensures answer { let all = kept self.q (ahead S.ByteSource source.old) in
+        ensures answer { let all = kept self.modulus.q (ahead S.ByteSource source.old) in
             result ≡ keep_answer (length numbers.old) all }
         ensures fills { let bytes = ahead S.ByteSource source.old in
-            OnOk result (numbers.new ≡ derived (length numbers.old) self.q bytes) }
+            OnOk result (numbers.new ≡ derived (length numbers.old) self.modulus.q bytes) }
     {
         for (count, number) in numbers.iter_mut().enumerate() {
             *number = self.next(source).ok_or(Fault::SourceSpent(count))?;
@@ -74,10 +72,10 @@ impl Sampler {
     ) -> Result<(), Fault>
         requires { length output.old ≤ length room.old }
         ensures means { S.meaning source.new ≡ S.meaning source.old }
-        ensures answer { let all = kept self.q (ahead S.ByteSource source.old) in
+        ensures answer { let all = kept self.modulus.q (ahead S.ByteSource source.old) in
             result ≡ keep_answer (length output.old) all }
         ensures fills { let bytes = ahead S.ByteSource source.old in
-            output.new ≡ after result (derived (length output.old) self.q bytes) output.old }
+            output.new ≡ after result (derived (length output.old) self.modulus.q bytes) output.old }
     {
         let numbers = &mut room[..output.len()];
         self.fill(source, numbers)?;

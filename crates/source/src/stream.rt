@@ -3,11 +3,8 @@ ghost use Rattle.std.specs.Prelude.{◌≡◌, ◌-◌, ◌<◌, ◌≤◌};
 ghost use Rattle.keccak.specs.Laws.{permuted};
 ghost use Rattle.keccak.specs.Sponge.{absorbed, next_state, output_block};
 
-use keccak::Shake128;
+use keccak::{RATE, Shake128};
 use std::snapshot::Snapshot;
-
-// The bytes of a block.
-const BLOCK: usize = 168;
 
 // The blocks of a stream.
 const BLOCKS: usize = 24;
@@ -18,7 +15,7 @@ const BLOCKS: usize = 24;
 pub(crate) struct Stream {
     seed: Snapshot<[u8; 16]>,
     sponge: Shake128,
-    block: [u8; 168],
+    block: [u8; RATE],
     offset: usize,
     left: usize,
     ghost within: { left ≤ 24 },
@@ -42,8 +39,8 @@ impl Stream {
         Stream {
             seed: Snapshot::of(seed),
             sponge: Shake128::absorb(seed),
-            block: [0; BLOCK],
-            offset: BLOCK,
+            block: [0; RATE],
+            offset: RATE,
             left: BLOCKS,
         }
     }
@@ -67,7 +64,7 @@ impl Stream {
         ensures seeded { self.new.seed.value ≡ self.old.seed.value }
         ensures gives { Gives (stream_bytes self.old) (stream_position self.old) result (stream_position self.new) }
     {
-        if self.offset == BLOCK {
+        if self.offset == RATE {
             self.squeeze()?;
         }
         let byte = self.block[self.offset];

@@ -11,6 +11,7 @@ use std::slice::Iter;
 pub struct Tape<'a> {
     bytes: &'a [u8],
     ahead: Option<Iter<'a, u8>>,
+    // what is ahead is an end of the bytes
     ghost is_end: { ForSome ahead (λ it. iter_rest it ≡ drop (length bytes.now - length (iter_rest it)) bytes.now) },
 }
 

@@ -66,7 +66,7 @@ fn check_output(alloc: Global, numbers: &[u32]) -> anyhow::Result<bool>
 
 // How to multiply: `as u8` gives the number that the exported function has for it.
 #[derive(Clone, Copy)]
-enum Method {
+enum Algorithm {
     Schoolbook,
     RowSum,
 }
@@ -82,12 +82,12 @@ struct ExpectedProduct<'a> {
 
 impl ExpectedProduct<'_> {
     // Whether the elements are accepted and multiplied to that product.
-    fn is_given_by(&self, method: Method, scratch: &mut [u32], output: &mut [u32]) -> bool
+    fn is_given_by(&self, algorithm: Algorithm, scratch: &mut [u32], output: &mut [u32]) -> bool
         ensures { let expected = self.now in result ≡ true
             → product (length expected.left.now) expected.q expected.left.now expected.right.now
             ≡ expected.product.now }
     {
-        let (row_sum, n) = (method as u8, self.left.len());
+        let (row_sum, n) = (algorithm as u8, self.left.len());
         exported_multiply(row_sum, n, self.q, self.left, self.right, scratch, output) == DONE
             && &output[..] == self.product
     }
@@ -114,9 +114,9 @@ fn check_product(alloc: Global, numbers: &[u32]) -> anyhow::Result<bool>
     };
     let mut scratch = vec![in alloc; 0u32; 2 * n]?;
     let mut output = vec![in alloc; 0u32; n]?;
-    let by_schoolbook = expected.is_given_by(Method::Schoolbook, &mut scratch, &mut output);
+    let by_schoolbook = expected.is_given_by(Algorithm::Schoolbook, &mut scratch, &mut output);
     output.fill(0);
-    let by_row_sum = expected.is_given_by(Method::RowSum, &mut scratch, &mut output);
+    let by_row_sum = expected.is_given_by(Algorithm::RowSum, &mut scratch, &mut output);
     Ok(by_schoolbook && by_row_sum)
 }
 

@@ -25,6 +25,7 @@ pub enum Group {
 }
 
 impl Group {
+    // in the order in which they are printed
     pub const ALL: [Group; 7] = [
         Group::Published,
         Group::Output,
@@ -74,7 +75,7 @@ pub struct Vector {
     pub numbers: Vec<u32>,
 }
 
-fn is_small_digit(text: &u8) -> bool {
+fn is_lower_hex_digit(text: &u8) -> bool {
     matches!(*text, b'0'..=b'9' | b'a'..=b'f')
 }
 
@@ -86,7 +87,7 @@ fn hex_bytes(alloc: Global, text: &str) -> anyhow::Result<Vec<u8>>
         return Ok(Vec::new(alloc));
     }
     let (pairs, half) = text.as_bytes().as_chunks::<2>();
-    if !pairs.as_flattened().iter().all(is_small_digit) {
+    if !pairs.as_flattened().iter().all(is_lower_hex_digit) {
         bail!("no hexadecimal digit");
     }
     if !half.is_empty() {

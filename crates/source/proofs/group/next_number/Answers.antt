@@ -19,6 +19,7 @@ loop-i-preserved g c =
     let few : c.loop-i.i < 4 = omega arith in
     record {
       means = f.means ∙ inv.means;
+      reads = f.reads ∙ inv.reads;
       group = rw (same, or_byte c.loop-i.number b c.loop-i.i inv.low byte few) (group_more _ _ _ _ inv.group b _ first);
       low = rw same (or_byte_below c.loop-i.number b c.loop-i.i inv.low byte few);
     }

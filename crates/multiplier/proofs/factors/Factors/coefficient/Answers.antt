@@ -3,13 +3,13 @@ use Rattle.multiplier.proofs.ReversedDots.{front_fits, rest_fits, lifted_fits, e
 use Rattle.multiplier.proofs.factors.Factors.coefficient.Goals as goal
 
 pub reversed_dot-plus-requires : goal.reversed_dot-plus-requires
-reversed_dot-plus-requires c = front_fits _ _ _ c.args.self.fit c.args.k c.requires
+reversed_dot-plus-requires c = front_fits c.args.self.modulus _ _ c.args.self.fit c.args.k c.requires
 
 pub reversed_dot-minus-requires : goal.reversed_dot-minus-requires
-reversed_dot-minus-requires c = rest_fits _ _ _ c.args.self.fit c.args.k c.requires
+reversed_dot-minus-requires c = rest_fits c.args.self.modulus _ _ c.args.self.fit c.args.k c.requires
 
 pub overflow_add-result : goal.overflow_add-result
-overflow_add-result c = rw c.from-modulus.ensures (omega (arith, lifted_fits _ _ _ c.args.self.fit c.args.k c.requires _ _ c.reversed_dot-plus.ensures c.reversed_dot-minus.ensures))
+overflow_add-result c = rw (c.from-q.ensures, c.value.ensures) (omega (arith, lifted_fits c.args.self.modulus _ _ c.args.self.fit c.args.k c.requires _ _ c.reversed_dot-plus.ensures c.reversed_dot-minus.ensures))
 
 pub overflow_sub-result : goal.overflow_sub-result
-overflow_sub-result c = rw c.from-modulus.ensures (enough _ _ _ c.args.self.fit c.args.k c.requires _ _ c.reversed_dot-plus.ensures c.reversed_dot-minus.ensures)
+overflow_sub-result c = rw (c.from-q.ensures, c.value.ensures) (enough c.args.self.modulus _ _ c.args.self.fit c.args.k c.requires _ _ c.reversed_dot-plus.ensures c.reversed_dot-minus.ensures)

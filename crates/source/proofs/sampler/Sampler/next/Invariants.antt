@@ -9,7 +9,7 @@ invariant-loop-number g l =
     let s = g.S.ByteSource in
     record {
       means : s.meaning l.source ≡ s.meaning l.initial.source;
-      keeps : kept l.self.q (ahead s l.source) ≡ kept l.self.q (ahead s l.initial.source);
+      keeps : kept l.self.modulus.q (ahead s l.source) ≡ kept l.self.modulus.q (ahead s l.initial.source);
     }
 
 abbrev pub decreases-loop-number : goal.decreases-loop-number
