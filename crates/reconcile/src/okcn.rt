@@ -1,5 +1,5 @@
 // The reconciler OKCN with two key values and four bands.
-ghost use Rattle.std.specs.Prelude.{◌≡◌, ◌*◌, ◌/◌, ◌<◌};
+ghost use Rattle.std.specs.Prelude.{◌≡◌, ◌*◌, ◌/◌, ◌^◌, ◌<◌};
 ghost use Rattle.reconcile.specs.Okcn.{okcn_numbers, okcn_functions};
 ghost use Rattle.reconcile.specs.LawProofs.Okcn.{okcn_sound};
 
@@ -9,11 +9,11 @@ use ring::{Fault, Modulus};
 pub struct Okcn;
 
 // Which of the four bands of 0..q has `rest`; no division.
-fn band(q: Modulus, rest: u32) -> u8
-    requires inside { rest < q.q }
-    ensures { result ≡ 4 * rest / q.q }
+fn band(q: u32, rest: u32) -> u8
+    requires inside { rest < q }
+    requires below { q < 2 ^ 23 }
+    ensures { result ≡ 4 * rest / q }
 {
-    let q = q.value();
     match 4 * rest {
         t if t < q => 0,
         t if t < 2 * q => 1,
@@ -42,7 +42,8 @@ impl Reconciler for Okcn {
     ghost sound = { okcn_sound };
 
     fn reconcile(q: Modulus, x: u32, coin: u8) -> Result<(u8, u8), Fault> {
-        if x >= q.value() {
+        let q = q.value();
+        if x >= q {
             return Err(Fault::OutOfRange(0));
         }
         let z = match coin {
@@ -51,11 +52,7 @@ impl Reconciler for Okcn {
             _ => return Err(Fault::CoinOutOfRange(0)),
         };
         // the half of 0..2q that z lies in, and how far in; no division
-        let (key_bit, rest) = if z < q.value() {
-            (0, z)
-        } else {
-            (1, z - q.value())
-        };
+        let (key_bit, rest) = if z < q { (0, z) } else { (1, z - q) };
         Ok((band(q, rest), key_bit))
     }
 
