@@ -1,5 +1,5 @@
 -- Finite sums of integers: f 0 + .. + f (m - 1).
-use Rattle.std.proofs.Common.{◌≡◌, ℕ, zero, suc, ◌+◌, ◌-◌, ◌<◌, ℤ, pos, ◌+ℤ◌, ◌*ℤ◌, neg_ℤ, sym, refl, ap, ◌∙◌, ⊎_elim, add-zero, add-suc, arith}
+use Rattle.std.proofs.Common.{◌≡◌, ℕ, zero, suc, ◌+◌, ◌-◌, ◌<◌, ℤ, pos, ◌+ℤ◌, ◌*ℤ◌, neg_ℤ, sym, refl, ap, ◌∙◌, ⊎_elim, add-zero, add-suc, one-add, arith}
 use lib.IntN.{+ℤ_idl, +ℤ_idr, +ℤ_comm, +ℤ_assoc, neg_ℤ-+ℤ, *ℤ-zero}
 use Rattle.std.proofs.lemmas.Int.{ints}
 use Rattle.std.proofs.lemmas.Bool.{cases_eq}
@@ -68,13 +68,10 @@ pub sum_to_reversed : (m : ℕ) (f : ℕ → ℤ) → sum_to m (λ i. f (m - suc
 sum_to_reversed zero f = sum_to_none (λ i. f (0 - suc i)) ∙ sym (sum_to_none f)
 sum_to_reversed (suc m) f =
     let g = λ (i : ℕ). f (suc m - suc i) in
-    ap (λ n. sum_to n g) (sym (one_add m)) ∙ sum_to_split 1 m g ∙ +ℤ_comm (sum_to 1 g) (sum_to m (λ i. g (1 + i)))
+    ap (λ n. sum_to n g) (sym (one-add m)) ∙ sum_to_split 1 m g ∙ +ℤ_comm (sum_to 1 g) (sum_to m (λ i. g (1 + i)))
     ∙ (λ t. (sum_to_same m (λ i. g (1 + i)) (λ i. f (m - suc i)) (λ i h. ap f (omega arith)) ∙ sum_to_reversed m f) t +ℤ last t)
     ∙ sym (sum_to_suc m f)
   where
-    one_add : (n : ℕ) → 1 + n ≡ suc n
-    one_add n = omega arith
-
     last : sum_to 1 (λ i. f (suc m - suc i)) ≡ f m
     last = sum_to_suc 0 (λ i. f (suc m - suc i)) ∙ ap (λ x. x +ℤ f (suc m - 1)) (sum_to_none (λ i. f (suc m - suc i))) ∙ +ℤ_idl (f (suc m - 1)) ∙ ap f (omega arith)
 

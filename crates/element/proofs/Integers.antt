@@ -1,5 +1,5 @@
 -- The laws of the product of integers.
-use Rattle.std.proofs.Common.{◌≡◌, zero, suc, ◌+◌, ◌*◌, ◌≤◌, ℤ, pos, negsuc, ◌+ℤ◌, ◌-ℤ◌, ◌*ℤ◌, neg_ℤ, nat_abs, sym, refl, ap, ◌∙◌, arith}
+use Rattle.std.proofs.Common.{◌≡◌, zero, suc, ◌+◌, ◌≤◌, ℤ, pos, negsuc, ◌+ℤ◌, ◌-ℤ◌, ◌*ℤ◌, neg_ℤ, nat_abs, sym, refl, ap, ◌∙◌, arith}
 use lib.IntN.{ℤ_ind, +ℤ_one, -ℤ_one, +ℤ_idl, +ℤ_invl, zero-*ℤ, suc_ℤ-*ℤ, pred_ℤ-*ℤ, *ℤ_comm}
 use Rattle.std.proofs.lemmas.Int.{ints}
 
@@ -61,12 +61,6 @@ one_times (negsuc a) = omega (arith, ints)
 -- the order of two factors is exchanged
 pub times_exchange : (a b c : ℤ) → a *ℤ (b *ℤ c) ≡ b *ℤ (a *ℤ c)
 times_exchange a b c = sym (times_assoc a b c) ∙ ap (λ x. x *ℤ c) (*ℤ_comm a b) ∙ times_assoc b a c
-
-pub nat_abs_times : (a b : ℤ) → nat_abs (a *ℤ b) ≡ nat_abs a * nat_abs b
-nat_abs_times (pos a) (pos b) = refl
-nat_abs_times (pos a) (negsuc b) = omega (arith, ints)
-nat_abs_times (negsuc a) (pos b) = omega (arith, ints)
-nat_abs_times (negsuc a) (negsuc b) = refl
 
 pub nat_abs_add : (a b : ℤ) → nat_abs (a +ℤ b) ≤ nat_abs a + nat_abs b
 nat_abs_add (pos a) (pos b) = omega (arith, ints)

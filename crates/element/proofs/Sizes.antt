@@ -1,11 +1,12 @@
 -- How large the coefficients of a product are.
 use Rattle.std.proofs.Common.{◌≡◌, ℕ, zero, suc, ◌+◌, ◌*◌, ◌<◌, ◌≤◌, List, length, take, ℤ, pos, ◌+ℤ◌, ◌*ℤ◌, nat_abs, sum_by, sym, ap, ◌∙◌, subst, ⊎_elim, le_trans, mul-le-mul_left, add-one, arith}
+use Rattle.std.proofs.lemmas.Int.{unsigned_abs-mul}
 use Rattle.std.proofs.lemmas.List.{take_all, get_or_past}
 use Rattle.std.proofs.lemmas.List.Sums.{sum_by_more, sum_by-take-le}
 use Rattle.std.proofs.lemmas.Bool.{cases_lt}
 use Rattle.element.specs.Products.{sum_to, at, shifted, coefficient}
 use Rattle.element.proofs.FiniteSums.{sum_to_none, sum_to_suc}
-use Rattle.element.proofs.Integers.{nat_abs_times, nat_abs_add, nat_abs_neg}
+use Rattle.element.proofs.Integers.{nat_abs_add, nat_abs_neg}
 use Rattle.element.proofs.Products.{shifted_related, coefficient_comm}
 use Rattle.element.proofs.Shapes.{coefficient_is}
 
@@ -26,7 +27,7 @@ size_of_sum m v w zero small = subst (λ x. nat_abs x ≤ m * 0) (sym (sum_to_no
 size_of_sum m v w (suc i) small =
     let f = λ (j : ℕ). at v j *ℤ w j in
     let before = size_of_sum m v w i (λ j h. small j (omega arith)) in
-    let last = nat_abs_times (at v i) (w i) in
+    let last = unsigned_abs-mul (at v i) (w i) in
     let last_small = mul-le-mul_left (nat_abs (at v i)) (small i (omega arith)) in
     let both = nat_abs_add (sum_to i f) (f i) in
     let bound : nat_abs (sum_to i f +ℤ f i) ≤ m * (sum_by nat_abs (take i v) + nat_abs (at v i)) = omega arith in

@@ -1,11 +1,22 @@
 // The reconciler of the Ding key exchange: an inner region by one signal bit, and a parity for the key bit.
-ghost use Rattle.reconcile.specs.Ding.{ding_functions, ding_numbers};
+ghost use Rattle.std.specs.Prelude.{◌≡◌, ◌<◌};
+ghost use Rattle.reconcile.specs.Ding.{ding_functions, ding_numbers, ding_read};
 ghost use Rattle.reconcile.specs.LawProofs.Ding.{ding_sound};
 
 use crate::reconciler::{Reconciler, ReconcilerNumbers, Tolerance};
 use ring::{Fault, Modulus};
 
 pub struct Ding;
+
+// The parity of the signed form of y, which a signal of 1 moves by (q - 1) / 2.
+fn key_bit(q: Modulus, y: u32, signal: u8) -> u8
+    requires inside { y < q.q }
+    requires small { signal < 2 }
+    ensures { result ≡ ding_read q.q y signal }
+{
+    let moved = (y + u32::from(signal) * ((q.value() - 1) / 2)) % q.value();
+    (q.signed(moved).unwrap().unsigned_abs() % 2) as u8
+}
 
 impl Reconciler for Ding {
     const NUMBERS: ReconcilerNumbers = ReconcilerNumbers {
@@ -36,15 +47,13 @@ impl Reconciler for Ding {
             1 => 1,
             _ => return Err(Fault::CoinOutOfRange(0)),
         };
-        let bit = Self::read(q, x, signal)?;
-        Ok((signal, bit))
+        Ok((signal, key_bit(q, x, signal)))
     }
 
     fn read(q: Modulus, y: u32, signal: u8) -> Result<u8, Fault> {
         if y >= q.value() || signal > 1 {
             return Err(Fault::OutOfRange(0));
         }
-        let moved = (y + u32::from(signal) * ((q.value() - 1) / 2)) % q.value();
-        Ok((q.signed(moved)?.unsigned_abs() % 2) as u8)
+        Ok(key_bit(q, y, signal))
     }
 }

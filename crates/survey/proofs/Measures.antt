@@ -1,11 +1,9 @@
 -- One step of each measure.
-use Rattle.std.proofs.Common.{◌≡◌, ℕ, zero, suc, ◌+◌, ◌*◌, ◌^◌, ◌<◌, ◌≤◌, Bool, false, cond, ◌&&◌, eqb, leb, ◌⊎◌, ℤ, pos, ◌-ℤ◌, ◌≤ℤ◌, Ok, sym, refl, ap, ◌∙◌, subst, inl, inr, ⊎_elim, add-zero, add-one, zero-add, arith}
+use Rattle.std.proofs.Common.{◌≡◌, ℕ, zero, suc, ◌+◌, ◌*◌, ◌^◌, ◌<◌, ◌≤◌, Bool, false, cond, ◌&&◌, eqb, leb, ◌⊎◌, ℤ, pos, ◌-ℤ◌, ◌≤ℤ◌, Ok, sym, refl, ap, ◌∙◌, subst, inl, inr, ⊎_elim, add-one, arith}
 use lib.Signed.{lt_z}
 use Rattle.std.proofs.lemmas.Int.{ints, clamps}
 use Rattle.std.proofs.lemmas.Bool.{le-leb, lt-leb, and_left, cases_lt, cases_cond, cond_both}
 use Rattle.std.specs.Int.{int_min, int_max}
-use Rattle.std.specs.List.{count_by, range_with_len}
-use Rattle.std.proofs.lemmas.List.Sums.{sum_by-cons}
 use Rattle.profile.proofs.Accepted.{recovered}
 use Rattle.profile.specs.Answers.{recover_answer}
 use Rattle.profile.specs.Counts.{count}
@@ -42,22 +40,6 @@ recovered_below k f lawful y t e =
 
 pub count_more : (passes : ℕ → Bool) (n : ℕ) → count passes (n + 1) ≡ count passes n + cond (passes n) 1 0
 count_more passes n = ap (count passes) (add-one n)
-
--- one number more at the end of a range
-count_by_last : (test : ℕ → Bool) (a n : ℕ) → count_by test (range_with_len a (suc n)) ≡ count_by test (range_with_len a n) + cond (test (a + n)) 1 0
-count_by_last test a zero = rw (add-zero a) (omega arith)
-count_by_last test a (suc n) =
-    let rest = count_by_last test (a + 1) n in
-    let at : a + 1 + n ≡ a + suc n = omega arith in
-    let one : ℕ → ℕ = λ k. cond (test k) 1 0 in
-    rw (← at) (omega (arith, sum_by-cons one a (range_with_len (a + 1) (suc n)), sum_by-cons one a (range_with_len (a + 1) n)))
-
--- a count over a range, by a test that agrees there
-pub count_range : (test passes : ℕ → Bool) (n : ℕ) → ((x : ℕ) → x < n → test x ≡ passes x) → count_by test (range_with_len 0 n) ≡ count passes n
-count_range test passes zero same = refl
-count_range test passes (suc n) same =
-    let last : test (0 + n) ≡ passes n = ap test (zero-add n) ∙ same n (omega arith) in
-    omega (arith, count_by_last test 0 n, count_range test passes n (λ x h. same x (omega arith)), ap {B = ℕ} (λ b. cond b 1 0) last)
 
 pub count_within : (passes : ℕ → Bool) (n : ℕ) → count passes n ≤ n
 count_within passes zero = omega arith

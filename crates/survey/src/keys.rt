@@ -1,6 +1,5 @@
 // How a signal divides the residues of a profile between the two key bits.
-ghost use Rattle.std.specs.Prelude.{◌≡◌, ◌-◌, ◌^◌, ◌<◌};
-ghost use Rattle.profile.specs.Laws.{key_count};
+ghost use Rattle.std.specs.Prelude.{◌≡◌, ◌-◌, ◌^◌};
 ghost use Rattle.survey.specs.Surveys.{keys_answer};
 
 use profile::Profile;
@@ -26,17 +25,8 @@ pub fn last_signal<P: Profile>() -> u8
     ((1u32 << P::NUMBERS.signal_width) - 1) as u8
 }
 
-// How many residues a coin gives this signal and key bit.
-fn count_key<P: Profile>(coin: u8, signal: u8, bit: u8) -> u32
-    requires { coin < P.NUMBERS.coins }
-    ensures { result ≡ key_count P.functions.signal P.functions.key_bit P.NUMBERS.q coin signal bit }
-{
-    (0..P::NUMBERS.q)
-        .filter(|x| P::reconcile(*x, coin) == Ok((signal, bit)))
-        .count() as u32
-}
-
 // How many residues a coin gives this signal with key bit 0, and how many with key bit 1.
+#[tactic(auto, using(crate::proofs::Measures::count_more))]
 pub fn count_keys<P: Profile>(coin: u8, signal: u8) -> Result<KeyCounts, Fault>
     ensures { result ≡ keys_answer P.NUMBERS P.functions coin signal }
 {
@@ -46,8 +36,13 @@ pub fn count_keys<P: Profile>(coin: u8, signal: u8) -> Result<KeyCounts, Fault>
     if coin > last_coin::<P>() {
         return Err(Fault::CoinOutOfRange(0));
     }
-    Ok(KeyCounts {
-        zeros: count_key::<P>(coin, signal, 0),
-        ones: count_key::<P>(coin, signal, 1),
-    })
+    let mut counts = KeyCounts { zeros: 0, ones: 0 };
+    for x in 0..P::NUMBERS.q {
+        match P::reconcile(x, coin)? {
+            (of_x, _) if of_x != signal => {}
+            (_, 0) => counts.zeros += 1,
+            _ => counts.ones += 1,
+        }
+    }
+    Ok(counts)
 }

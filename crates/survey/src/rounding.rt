@@ -1,5 +1,5 @@
 // How far rounding moves the residues of a profile.
-ghost use Rattle.std.specs.Prelude.{◌≡◌, ◌^◌, ◌<◌, Ok};
+ghost use Rattle.std.specs.Prelude.{◌≡◌, ◌^◌, ◌<◌, Ok, if◌then◌else◌};
 ghost use Rattle.survey.specs.Surveys.{distance, tie, rounding_answer, widened};
 
 use profile::Profile;
@@ -51,16 +51,24 @@ impl Rounded {
     }
 }
 
+impl From<Rounded> for RoundingSurvey {
+    // The survey of one residue.
+    fn from(one: Rounded) -> Self
+        ensures { result ≡ record { least = one.distance; largest = one.distance; ties = if one.tie then 1 else 0 } }
+    {
+        RoundingSurvey {
+            least: one.distance,
+            largest: one.distance,
+            ties: u32::from(one.tie),
+        }
+    }
+}
+
 // Rounds and recovers every residue.
 pub fn survey_rounding<P: Profile>() -> Result<RoundingSurvey, Fault>
     ensures { rounding_answer P.NUMBERS P.functions result }
 {
-    let Rounded { distance, tie } = Rounded::of::<P>(0)?;
-    let mut survey = RoundingSurvey {
-        least: distance,
-        largest: distance,
-        ties: u32::from(tie),
-    };
+    let mut survey = RoundingSurvey::from(Rounded::of::<P>(0)?);
     for x in 1..P::NUMBERS.q {
         survey = survey.widen(Rounded::of::<P>(x)?);
     }

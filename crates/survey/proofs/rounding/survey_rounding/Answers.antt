@@ -24,6 +24,6 @@ loop-x-preserved g c =
     let x = c.loop-x.x in
     let s = c.loop-x.survey in
     subst (Surveyed k f (x + 1))
-    (widened_by s c.widen-survey.result c.of-in-loop-x.result c.in_ok-of.field-0 (record { distance = distance f x; tie = tie k f x })
-    c.in_ok-of.was c.of-in-loop-x.ensures c.widen-survey.ensures)
+    (widened_by s c.widen-survey.result c.of-in-loop-x.result c.in_ok-of-2.field-0 (record { distance = distance f x; tie = tie k f x })
+    c.in_ok-of-2.was c.of-in-loop-x.ensures c.widen-survey.ensures)
     (surveyed_more k f x s c.loop-x.invariant)

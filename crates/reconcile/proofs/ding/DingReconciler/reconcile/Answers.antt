@@ -1,9 +1,8 @@
-use Rattle.std.proofs.Common.{◌≡◌, ℕ, ◌/◌, ◌<◌, ℤ, pos, ◌+ℤ◌, ◌-ℤ◌, Ok, Err, sym, ap, ◌∙◌, arith, w32, to_z, of_z}
+use Rattle.std.proofs.Common.{◌≡◌, ℕ, ◌/◌, ◌<◌, ℤ, pos, ◌+ℤ◌, ◌-ℤ◌, Ok, sym, ap, ◌∙◌, arith, w32, to_z, of_z}
 use Rattle.std.proofs.lemmas.Int.{ints}
 use Rattle.std.proofs.lemmas.Bool.Decides.{nat_tests}
 use Rattle.ring.specs.Residues.{signed, signed_answer}
-use Rattle.ring.specs.declared.fault.Fault.{Fault}
-use Rattle.profile.specs.Answers.{reconciled, key_bit_read}
+use Rattle.profile.specs.Answers.{reconciled}
 use Rattle.reconcile.specs.Ding.{ding_signal, ding_read, ding_functions}
 use Rattle.reconcile.specs.LawProofs.Ding.{region_signal, signal_inside, signal_under, signal_over, signal_at}
 use Rattle.reconcile.proofs.ding.DingReconciler.reconcile.Goals as goal
@@ -17,12 +16,8 @@ module _ (q x : ℕ) (s : ℤ) (e : Ok s ≡ signed_answer q x) where
   answered_signed : s ≡ signed q x
   answered_signed = grind (arith, nat_tests)
 
-module _ (q x signal : ℕ) (below : x < q) where
-  never_refused : (f : Fault) → signal < 2 → Err f ≡ key_bit_read q 1 (ding_read q) x signal → ⊥
-  never_refused f small e = grind (arith, nat_tests)
-
-  both_answered : (coin bit : ℕ) → coin < 2 → signal ≡ ding_signal q x coin → Ok bit ≡ key_bit_read q 1 (ding_read q) x signal → Ok (signal, bit) ≡ reconciled q 2 (ding_signal q) (ding_functions.key_bit q) x coin
-  both_answered coin bit small e f = grind (arith, nat_tests)
+both_answered : (q x coin signal bit : ℕ) → x < q → coin < 2 → signal ≡ ding_signal q x coin → bit ≡ ding_read q x signal → Ok (signal, bit) ≡ reconciled q 2 (ding_signal q) (ding_functions.key_bit q) x coin
+both_answered q x coin signal bit below small e f = grind (arith, nat_tests)
 
 -- an i32, as the code holds it
 abbrev held : ℤ → ℤ
@@ -30,20 +25,6 @@ held z = to_z w32 (of_z w32 z)
 
 same_signal : {a b s a' b' s' : ℤ} → a ≡ a' → b ≡ b' → s ≡ s' → region_signal a b s ≡ region_signal a' b' s'
 same_signal e f g = cc
-
-pub returns-in_err-bit : goal.returns-in_err-bit
-returns-in_err-bit c =
-    let below = answered_below _ _ _ c.in_ok-s.ensures.value in
-    let small : c.match-coin.signal < 2 =
-    elim c.match-coin.branch [
-      | in-0 w ↦ omega (arith, w.signal-is)
-      | in-0-2 w ↦ omega (arith, w.signal-is)
-      | in-0-2-2 w ↦ omega (arith, w.signal-is)
-      | in-1 w ↦ omega (arith, w.signal-is)
-      | in-1-2 w ↦ omega (arith, w.signal-is)
-      | in-1-2-2 w ↦ omega (arith, w.signal-is)
-    ] in
-    absurd (never_refused _ _ _ below _ small c.in_err-bit.ensures)
 
 pub returns : goal.returns
 returns c =
@@ -70,6 +51,6 @@ returns c =
       | in-1-2 w ↦ by-1 w.in-1.is (w.signal-is ∙ sym (signal_over low-1 high-1 at w.if-s-r-2.false))
       | in-1-2-2 w ↦ by-1 w.in-1.is (w.signal-is ∙ sym (signal_under low-1 high-1 at w.if-r-s-2.false))
     ] in
-    both_answered q c.args.x c.match-coin.signal (answered_below _ _ _ told) coin _ way.0
+    both_answered q c.args.x coin c.match-coin.signal _ (answered_below _ _ _ told) way.0
     (way.1 ∙ ap (signal_at q coin) (answered_signed _ _ _ told))
-    c.in_ok-bit.ensures
+    c.key_bit.ensures
