@@ -45,15 +45,22 @@ derive_code k bytes output = done_code (derive_answer k.n k.q bytes (length outp
 abbrev pub derive_output : Numbers → List ℕ → List ℕ → List ℕ
 derive_output k bytes output = after (derive_answer k.n k.q bytes (length output)) (derived k.n k.q bytes) output
 
--- the same from a seed, which has 16 bytes, for the profile of an index
+-- the same from a tape, for the profile of an index
+abbrev pub derive_tape_code : ℕ → List ℕ → List ℕ → ℕ
+derive_tape_code profile tape output = by_profile (λ k _. derive_code k tape output) no_call profile
+
+abbrev pub derive_tape_output : ℕ → List ℕ → List ℕ → List ℕ
+derive_tape_output profile tape output = by_profile (λ k _. derive_output k tape output) output profile
+
+-- the same from a seed, which has 16 bytes
 abbrev pub derive_seed_code : ℕ → List ℕ → List ℕ → ℕ
 derive_seed_code profile seed output =
     if length seed == 16
-    then by_profile (λ k _. derive_code k (shake128 seed 4032) output) no_call profile
+    then derive_tape_code profile (shake128 seed 4032) output
     else no_call
 
 abbrev pub derive_seed_output : ℕ → List ℕ → List ℕ → List ℕ
 derive_seed_output profile seed output =
     if length seed == 16
-    then by_profile (λ k _. derive_output k (shake128 seed 4032) output) output profile
+    then derive_tape_output profile (shake128 seed 4032) output
     else output

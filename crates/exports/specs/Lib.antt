@@ -1,3 +1,4 @@
 pub mod Codes
 pub mod ByProfile
 pub mod Elements
+pub mod Profiles

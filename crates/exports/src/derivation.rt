@@ -2,9 +2,7 @@
 ghost use Rattle.std.specs.Prelude.{◌≡◌, [], length};
 ghost use Rattle.keccak.specs.Sponge.{shake128 as shake128_of};
 ghost use Rattle.source.specs.Tapes.{tape_meaning};
-ghost use Rattle.exports.specs.ByProfile.{by_profile};
-ghost use Rattle.exports.specs.Codes.{no_call};
-ghost use Rattle.exports.specs.Elements.{derive_code, derive_output, derive_seed_code, derive_seed_output};
+ghost use Rattle.exports.specs.Elements.{derive_tape_code, derive_tape_output, derive_seed_code, derive_seed_output};
 
 use crate::by_index::by_index;
 use crate::codes::{Coded, NO_CALL};
@@ -19,9 +17,8 @@ fn tape_source(tape: &[u8]) -> Tape<'_>
 }
 
 pub fn exported_derive_tape(profile: u8, tape: &[u8], output: &mut [u32]) -> u64
-    ensures answers { result ≡ by_profile (λ numbers _. derive_code numbers tape.now output.old) no_call profile }
-    ensures writes { output.new
-        ≡ by_profile (λ numbers _. derive_output numbers tape.now output.old) output.old profile }
+    ensures answers { result ≡ derive_tape_code profile tape.now output.old }
+    ensures writes { output.new ≡ derive_tape_output profile tape.now output.old }
 {
     let source = &mut tape_source(tape);
     by_index!(profile, derive::<P, _>(source, &[0; 16], output).code())

@@ -3,10 +3,9 @@
 
 ghost use Rattle.std.specs.Prelude.{◌≡◌, length};
 ghost use Rattle.keccak.specs.Sponge.{shake128};
-ghost use Rattle.profile.specs.Answers.{round_answer, recover_answer, reconcile_answer, read_answer};
-ghost use Rattle.exports.specs.ByProfile.{by_profile};
-ghost use Rattle.exports.specs.Codes.{value_code, pair_code, no_call};
-ghost use Rattle.exports.specs.Elements.{Multiplied, derive_code, derive_output, derive_seed_code, derive_seed_output};
+ghost use Rattle.exports.specs.Elements.{Multiplied, derive_tape_code, derive_tape_output};
+ghost use Rattle.exports.specs.Elements.{derive_seed_code, derive_seed_output};
+ghost use Rattle.exports.specs.Profiles.{round_code, recover_code, reconcile_code, read_code};
 
 #[unsafe(no_mangle)]
 pub extern "C" fn exported_multiply(
@@ -25,9 +24,8 @@ pub extern "C" fn exported_multiply(
 
 #[unsafe(no_mangle)]
 pub extern "C" fn exported_derive_tape(profile: u8, tape: &[u8], output: &mut [u32]) -> u64
-    ensures answers { result ≡ by_profile (λ numbers _. derive_code numbers tape.now output.old) no_call profile }
-    ensures writes { output.new
-        ≡ by_profile (λ numbers _. derive_output numbers tape.now output.old) output.old profile }
+    ensures answers { result ≡ derive_tape_code profile tape.now output.old }
+    ensures writes { output.new ≡ derive_tape_output profile tape.now output.old }
 {
     exports::exported_derive_tape(profile, tape, output)
 }
@@ -49,32 +47,28 @@ pub extern "C" fn exported_shake128(message: &[u8], output: &mut [u8])
 
 #[unsafe(no_mangle)]
 pub extern "C" fn exported_round(profile: u8, x: u32) -> u64
-    ensures { result
-        ≡ by_profile (λ numbers functions. value_code (round_answer numbers functions x)) no_call profile }
+    ensures { result ≡ round_code profile x }
 {
     exports::exported_round(profile, x)
 }
 
 #[unsafe(no_mangle)]
 pub extern "C" fn exported_recover(profile: u8, y: u32) -> u64
-    ensures { result
-        ≡ by_profile (λ numbers functions. value_code (recover_answer numbers functions y)) no_call profile }
+    ensures { result ≡ recover_code profile y }
 {
     exports::exported_recover(profile, y)
 }
 
 #[unsafe(no_mangle)]
 pub extern "C" fn exported_reconcile(profile: u8, x: u32, coin: u8) -> u64
-    ensures { result
-        ≡ by_profile (λ numbers functions. pair_code (reconcile_answer numbers functions x coin)) no_call profile }
+    ensures { result ≡ reconcile_code profile x coin }
 {
     exports::exported_reconcile(profile, x, coin)
 }
 
 #[unsafe(no_mangle)]
 pub extern "C" fn exported_read(profile: u8, y: u32, signal: u8) -> u64
-    ensures { result
-        ≡ by_profile (λ numbers functions. value_code (read_answer numbers functions y signal)) no_call profile }
+    ensures { result ≡ read_code profile y signal }
 {
     exports::exported_read(profile, y, signal)
 }

@@ -2,10 +2,9 @@
 use Rattle.std.specs.Prelude.{◌≡◌, ℕ, ◌+◌, ◌*◌, List, [], take, drop, slice_index}
 use Rattle.element.specs.Products.{product}
 use Rattle.keccak.specs.Sponge.{shake128}
-use Rattle.profile.specs.Answers.{round_answer, recover_answer, reconcile_answer, read_answer}
 use Rattle.source.specs.Derivation.{derived}
 use Rattle.exports.specs.ByProfile.{by_profile}
-use Rattle.exports.specs.Codes.{value_code, pair_code, no_call}
+use Rattle.exports.specs.Profiles.{round_code, recover_code, reconcile_code, read_code}
 use Rattle.vectors.specs.declared.line.Group.{Group}
 use Rattle.vectors.specs.declared.line.Group.TheVariants.{Published, Output, Product, Derived}
 use Rattle.vectors.specs.declared.line.Group.TheVariants.{Rounded, Reconciled, Read}
@@ -37,19 +36,18 @@ DerivedHolds line =
 -- a profile, a residue, its rounded value, and what that recovers to
 abbrev pub RoundedHolds : List ℕ → Type 0
 RoundedHolds line =
-    (by_profile (λ k f. value_code (round_answer k f (number line 1))) no_call (number line 0) ≡ number line 2)
-    × (by_profile (λ k f. value_code (recover_answer k f (number line 2))) no_call (number line 0) ≡ number line 3)
+    (round_code (number line 0) (number line 1) ≡ number line 2)
+    × (recover_code (number line 0) (number line 2) ≡ number line 3)
 
 -- a profile, a residue, a coin, and their signal and key bit
 abbrev pub ReconciledHolds : List ℕ → Type 0
 ReconciledHolds line =
-    by_profile (λ k f. pair_code (reconcile_answer k f (number line 1) (number line 2))) no_call (number line 0)
-    ≡ 2 * number line 3 + number line 4
+    reconcile_code (number line 0) (number line 1) (number line 2) ≡ 2 * number line 3 + number line 4
 
 -- a profile, a residue, a signal, and the key bit that is read
 abbrev pub ReadHolds : List ℕ → Type 0
 ReadHolds line =
-    by_profile (λ k f. value_code (read_answer k f (number line 1) (number line 2))) no_call (number line 0) ≡ number line 3
+    read_code (number line 0) (number line 1) (number line 2) ≡ number line 3
 
 abbrev pub Holds : Group → List ℕ → Type 0
 Holds Published line = OutputHolds line
