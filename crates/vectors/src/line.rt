@@ -1,5 +1,5 @@
 // A line of the input: a word for the group, then numbers.
-ghost use Rattle.std.specs.Prelude.{◌≡◌, ◌≢◌, Ok, IfOk, codes};
+ghost use Rattle.std.specs.Prelude.{◌≡◌, ◌≢◌, ◌≤◌, ◌⊎◌, ◌↔◌, Ok, IfOk, IsTrue, codes};
 ghost use Rattle.hex.specs.Hex.{decode_of};
 
 use anyhow::{Context, anyhow, bail};
@@ -75,7 +75,9 @@ pub struct Vector {
     pub numbers: Vec<u32>,
 }
 
-fn is_lower_hex_digit(text: &u8) -> bool {
+fn is_lower_hex_digit(text: &u8) -> bool
+    ensures { IsTrue result ↔ (((48 ≤ text.now) × (text.now ≤ 57)) ⊎ ((97 ≤ text.now) × (text.now ≤ 102))) }
+{
     matches!(*text, b'0'..=b'9' | b'a'..=b'f')
 }
 
