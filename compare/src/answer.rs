@@ -9,7 +9,7 @@ use crate::fault::Fault;
 pub struct Answer(pub u64);
 
 impl Answer {
-    /// No call can be made: there is no such profile or ring, or the seed is not 16 bytes long.
+    /// No call can be made: there is no such profile, ring or width, or the seed is not 16 bytes long.
     pub const NO_CALL: Answer = Answer(1 << 63);
 
     /// A call that was accepted and has no value to give.
@@ -45,7 +45,7 @@ impl fmt::Display for Answer {
         let (top, rest) = (self.0 >> 56, self.0 & ((1 << 56) - 1));
         match top {
             0 => write!(f, "{rest}"),
-            1..=5 => write!(f, "fault {top} at place {rest}"),
+            1..=5 | 7..=9 => write!(f, "fault {top} at place {rest}"),
             _ if *self == Answer::NO_CALL => write!(f, "no call"),
             _ => write!(f, "{:#018x}, which is no answer", self.0),
         }
@@ -67,6 +67,7 @@ mod tests {
     fn answers_are_shown_by_what_they_mean() {
         assert_eq!(Answer(7).to_string(), "7");
         assert_eq!(Answer::from(Fault::OutOfRange(7)).to_string(), "fault 2 at place 7");
+        assert_eq!(Answer::from(Fault::SpareBit(16)).to_string(), "fault 9 at place 16");
         assert_eq!(Answer::NO_CALL.to_string(), "no call");
         assert_eq!(Answer(0x0600_0000_0000_0000).to_string(), "0x0600000000000000, which is no answer");
     }

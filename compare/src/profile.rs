@@ -1,6 +1,7 @@
 //! The six house profiles and their four functions, straight from the definitions.
 
 use crate::fault::Fault;
+use crate::message::Width;
 use crate::ring::Ring;
 
 /// How the two ends come to the same key bits.
@@ -14,9 +15,11 @@ pub enum Reconciler {
 #[derive(Clone, Copy, Debug, PartialEq, Eq)]
 pub struct Profile {
     name: &'static str,
+    /// How a message's head names the numbers.
+    numbers_byte: u8,
     ring: Ring,
-    /// The largest rounded value.
-    p: u32,
+    /// The bits of a rounded value.
+    value_width: Width,
     reconciler: Reconciler,
 }
 
@@ -30,17 +33,25 @@ pub struct Reconciled {
 impl Profile {
     /// All six, in the order of their indices.
     pub const HOUSE: [Profile; 6] = [
-        Profile::new("T Ding", 4, 257, 63, Reconciler::Ding),
-        Profile::new("T OKCN", 4, 257, 63, Reconciler::Okcn),
-        Profile::new("S Ding", 512, 12289, 4095, Reconciler::Ding),
-        Profile::new("S OKCN", 512, 12289, 4095, Reconciler::Okcn),
-        Profile::new("W Ding", 256, 8380417, 16383, Reconciler::Ding),
-        Profile::new("W OKCN", 256, 8380417, 16383, Reconciler::Okcn),
+        Profile::new("T Ding", 1, 4, 257, 6, Reconciler::Ding),
+        Profile::new("T OKCN", 1, 4, 257, 6, Reconciler::Okcn),
+        Profile::new("S Ding", 2, 512, 12289, 12, Reconciler::Ding),
+        Profile::new("S OKCN", 2, 512, 12289, 12, Reconciler::Okcn),
+        Profile::new("W Ding", 3, 256, 8380417, 14, Reconciler::Ding),
+        Profile::new("W OKCN", 3, 256, 8380417, 14, Reconciler::Okcn),
     ];
 
-    const fn new(name: &'static str, n: usize, q: u32, p: u32, reconciler: Reconciler) -> Profile {
+    const fn new(
+        name: &'static str,
+        numbers_byte: u8,
+        n: usize,
+        q: u32,
+        value_bits: u32,
+        reconciler: Reconciler,
+    ) -> Profile {
         let ring = Ring::new(n, q).expect("a house profile has a ring");
-        Profile { name, ring, p, reconciler }
+        let value_width = Width::new(value_bits).expect("a house profile's rounded values have a width");
+        Profile { name, numbers_byte, ring, value_width, reconciler }
     }
 
     /// The house profile of this index, from 0 to 5.
@@ -64,8 +75,36 @@ impl Profile {
         self.ring.q()
     }
 
+    /// The largest rounded value.
     pub fn p(&self) -> u32 {
-        self.p
+        self.value_width.largest()
+    }
+
+    /// The bits of a rounded value.
+    pub fn value_width(&self) -> Width {
+        self.value_width
+    }
+
+    /// The bits of a signal.
+    pub fn signal_width(&self) -> Width {
+        let bits = match self.reconciler {
+            Reconciler::Ding => 1,
+            Reconciler::Okcn => 2,
+        };
+        Width::new(bits).expect("signals have a width")
+    }
+
+    /// How a message's head names the numbers.
+    pub fn numbers_byte(&self) -> u8 {
+        self.numbers_byte
+    }
+
+    /// How a message's head names the reconciler.
+    pub fn reconciler_byte(&self) -> u8 {
+        match self.reconciler {
+            Reconciler::Ding => 1,
+            Reconciler::Okcn => 2,
+        }
     }
 
     /// What errors and rounding distances are multiples of.
@@ -97,7 +136,7 @@ impl Profile {
         let step = self.step();
         let first = x % step;
         let member = |i: u32| first + i * step;
-        let count = (self.p - first) / step + 1;
+        let count = (self.p() - first) / step + 1;
         let more = first_index(count, |i| self.recovered(member(i)) > x);
         let nearest = (more.saturating_sub(1)..count.min(more + 1))
             .map(member)
@@ -108,14 +147,14 @@ impl Profile {
 
     /// The least integer t >= floor(y q / p) for which t - y is a multiple of step.
     pub fn recover(&self, y: u32) -> Result<u32, Fault> {
-        if y > self.p {
+        if y > self.p() {
             return Err(Fault::OutOfRange(0));
         }
         Ok(self.recovered(y))
     }
 
     fn recovered(&self, y: u32) -> u32 {
-        let quotient = (u64::from(y) * u64::from(self.q()) / u64::from(self.p)) as u32;
+        let quotient = (u64::from(y) * u64::from(self.q()) / u64::from(self.p())) as u32;
         let in_class = |t: u32| t.abs_diff(y).is_multiple_of(self.step());
         (quotient..).find(|&t| in_class(t)).expect("one of any two integers is in the class")
     }

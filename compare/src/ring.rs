@@ -52,10 +52,10 @@ pub trait Multiplier {
 fn check(ring: Ring, need: usize, left: &[u32], right: &[u32], scratch: &[u32], output: &[u32]) -> Result<(), Fault> {
     let Ring { n, q } = ring;
     if left.len() != n {
-        return Err(Fault::WrongLength(Argument::Left));
+        return Err(Fault::WrongLength(Argument::First));
     }
     if right.len() != n {
-        return Err(Fault::WrongLength(Argument::Right));
+        return Err(Fault::WrongLength(Argument::Second));
     }
     if scratch.len() < need {
         return Err(Fault::WrongLength(Argument::Scratch));
