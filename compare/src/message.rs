@@ -55,19 +55,20 @@ pub fn pack(width: Width, numbers: &[u32], output: &mut [u8]) -> Result<(), Faul
 
 /// Packs numbers that fit, into an output of the right length.
 fn pack_fitting(width: Width, numbers: &[u32], output: &mut [u8]) {
-    let mut left = output;
     // The bits that are not written yet, fewer than 32 between two numbers.
     let (mut held, mut bits) = (0_u64, 0);
+    let mut at = 0;
     for &x in numbers {
         held |= u64::from(x) << bits;
         bits += width.bits();
         if bits >= 32 {
-            let word = left.split_off_mut(..4).expect("the output has room for all numbers");
-            word.copy_from_slice(&(held as u32).to_le_bytes());
+            output[at..at + 4].copy_from_slice(&(held as u32).to_le_bytes());
+            at += 4;
             held >>= 32;
             bits -= 32;
         }
     }
+    let left = &mut output[at..];
     left.copy_from_slice(&held.to_le_bytes()[..left.len()]);
 }
 

@@ -1,6 +1,6 @@
 //! The proved library's exported functions.
 //!
-//! Nothing checks these declarations against the library: they say what `libexports.a` is expected to have.
+//! Nothing checks these declarations against the library: they say what `libexports_c.a` is expected to have.
 
 use crate::answer::Answer;
 
@@ -30,6 +30,56 @@ unsafe extern "C" {
     safe fn exported_recover(profile: u8, y: u32) -> u64;
     safe fn exported_reconcile(profile: u8, x: u32, coin: u8) -> u64;
     safe fn exported_read(profile: u8, y: u32, signal: u8) -> u64;
+
+    fn exported_pack(width: u32, numbers: *const u32, numbers_len: usize, output: *mut u8, output_len: usize) -> u64;
+
+    fn exported_unpack(width: u32, bytes: *const u8, bytes_len: usize, numbers: *mut u32, numbers_len: usize) -> u64;
+
+    fn exported_write_offer(
+        profile: u8,
+        round: u32,
+        seed: *const u8,
+        seed_len: usize,
+        values: *const u32,
+        values_len: usize,
+        output: *mut u8,
+        output_len: usize,
+    ) -> u64;
+
+    fn exported_write_answer(
+        profile: u8,
+        round: u32,
+        values: *const u32,
+        values_len: usize,
+        signals: *const u32,
+        signals_len: usize,
+        output: *mut u8,
+        output_len: usize,
+    ) -> u64;
+
+    fn exported_write_confirmation(profile: u8, round: u32, output: *mut u8, output_len: usize) -> u64;
+
+    fn exported_read_offer(
+        profile: u8,
+        message: *const u8,
+        message_len: usize,
+        seed: *mut u8,
+        seed_len: usize,
+        values: *mut u32,
+        values_len: usize,
+    ) -> u64;
+
+    fn exported_read_answer(
+        profile: u8,
+        message: *const u8,
+        message_len: usize,
+        values: *mut u32,
+        values_len: usize,
+        signals: *mut u32,
+        signals_len: usize,
+    ) -> u64;
+
+    fn exported_read_confirmation(profile: u8, message: *const u8, message_len: usize) -> u64;
 }
 
 /// By schoolbook where `row_sum` is 0, and by row sum otherwise.
@@ -90,4 +140,89 @@ pub fn reconcile(profile: u8, x: u32, coin: u8) -> Answer {
 
 pub fn read(profile: u8, y: u32, signal: u8) -> Answer {
     Answer(exported_read(profile, y, signal))
+}
+
+pub fn pack(width: u32, numbers: &[u32], output: &mut [u8]) -> Answer {
+    // SAFETY: as in `multiply`.
+    Answer(unsafe { exported_pack(width, numbers.as_ptr(), numbers.len(), output.as_mut_ptr(), output.len()) })
+}
+
+pub fn unpack(width: u32, bytes: &[u8], numbers: &mut [u32]) -> Answer {
+    // SAFETY: as in `multiply`.
+    Answer(unsafe { exported_unpack(width, bytes.as_ptr(), bytes.len(), numbers.as_mut_ptr(), numbers.len()) })
+}
+
+pub fn write_offer(profile: u8, round: u32, seed: &[u8], values: &[u32], output: &mut [u8]) -> Answer {
+    // SAFETY: as in `multiply`.
+    Answer(unsafe {
+        exported_write_offer(
+            profile,
+            round,
+            seed.as_ptr(),
+            seed.len(),
+            values.as_ptr(),
+            values.len(),
+            output.as_mut_ptr(),
+            output.len(),
+        )
+    })
+}
+
+pub fn write_answer(profile: u8, round: u32, values: &[u32], signals: &[u32], output: &mut [u8]) -> Answer {
+    // SAFETY: as in `multiply`.
+    Answer(unsafe {
+        exported_write_answer(
+            profile,
+            round,
+            values.as_ptr(),
+            values.len(),
+            signals.as_ptr(),
+            signals.len(),
+            output.as_mut_ptr(),
+            output.len(),
+        )
+    })
+}
+
+pub fn write_confirmation(profile: u8, round: u32, output: &mut [u8]) -> Answer {
+    // SAFETY: as in `multiply`.
+    Answer(unsafe { exported_write_confirmation(profile, round, output.as_mut_ptr(), output.len()) })
+}
+
+/// Accepted, the value is the round, and the buffers hold the seed and the rounded values.
+pub fn read_offer(profile: u8, message: &[u8], seed: &mut [u8], values: &mut [u32]) -> Answer {
+    // SAFETY: as in `multiply`.
+    Answer(unsafe {
+        exported_read_offer(
+            profile,
+            message.as_ptr(),
+            message.len(),
+            seed.as_mut_ptr(),
+            seed.len(),
+            values.as_mut_ptr(),
+            values.len(),
+        )
+    })
+}
+
+/// Accepted, the value is the round, and the buffers hold the rounded values and the signals.
+pub fn read_answer(profile: u8, message: &[u8], values: &mut [u32], signals: &mut [u32]) -> Answer {
+    // SAFETY: as in `multiply`.
+    Answer(unsafe {
+        exported_read_answer(
+            profile,
+            message.as_ptr(),
+            message.len(),
+            values.as_mut_ptr(),
+            values.len(),
+            signals.as_mut_ptr(),
+            signals.len(),
+        )
+    })
+}
+
+/// Accepted, the value is the round.
+pub fn read_confirmation(profile: u8, message: &[u8]) -> Answer {
+    // SAFETY: as in `multiply`.
+    Answer(unsafe { exported_read_confirmation(profile, message.as_ptr(), message.len()) })
 }
