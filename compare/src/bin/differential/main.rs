@@ -2,7 +2,9 @@
 //! there is none, and a file is named, it writes the table of vectors there.
 
 mod derive;
+mod message;
 mod multiply;
+mod packing;
 mod profile;
 mod shake;
 mod walled;
@@ -24,7 +26,7 @@ struct Difference(String);
 /// A group of cases, of which the answer is how many there were.
 type Group = fn(&mut Random) -> Result<u64, Difference>;
 
-const GROUPS: [(&str, Group); 17] = [
+const GROUPS: [(&str, Group); 31] = [
     ("products, all of the smallest rings", multiply::all_small_products),
     ("products, at the edges and random", multiply::products),
     ("multiply, wrong lengths", multiply::wrong_lengths),
@@ -42,6 +44,20 @@ const GROUPS: [(&str, Group); 17] = [
     ("reconcile, every residue and coin", profile::reconcile),
     ("read, every residue and signal", profile::read),
     ("round, recover, reconcile and read, refusals", profile::refusals),
+    ("pack and unpack, every width", packing::round_trips),
+    ("pack and unpack, wrong lengths", packing::wrong_lengths),
+    ("pack, a number that does not fit at every place", packing::every_place),
+    ("pack and unpack, widths that there are not", packing::bad_widths),
+    ("messages, written and read back", message::round_trips),
+    ("write a message, wrong lengths", message::write_wrong_lengths),
+    ("write a message, a number out of range at every place", message::write_every_place),
+    ("read a message, cut at every length and longer", message::cuts),
+    ("read a message, every byte damaged", message::single_damages),
+    ("read a message, several bytes damaged", message::several_damages),
+    ("read a message, every count", message::every_count),
+    ("read a message, another kind or profile", message::others),
+    ("read a message, random bytes", message::random_bytes),
+    ("messages, wrong buffers, seeds and profiles", message::wrong_buffers),
 ];
 
 fn main() -> ExitCode {
