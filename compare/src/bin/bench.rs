@@ -6,11 +6,15 @@ use std::time::{Duration, Instant};
 
 use compare::answer::Answer;
 use compare::derive::Seed;
+use compare::message::Kind;
 use compare::profile::Profile;
 use compare::random::Random;
 use compare::{plain, proved};
 
 const ROUNDS: usize = 101;
+
+/// The index of the profile S Ding.
+const S_DING: u8 = 2;
 
 /// How long each call is repeated in a round, at least.
 const ROUND_TIME: Duration = Duration::from_millis(2);
@@ -40,6 +44,12 @@ fn main() {
     let seed = random.seed();
     report("SHAKE128, 4032 bytes", &shake128(&seed));
     report("derive at S, by SHAKE128", &derive(&seed));
+    let (packing, unpacking) = pack(random);
+    report("pack at S", &packing);
+    report("unpack at S", &unpacking);
+    let (writing, reading) = answer(random);
+    report("write an answer at S", &writing);
+    report("read an answer at S", &reading);
 
     println!();
     println!(
@@ -85,7 +95,6 @@ fn shake128(message: &[u8]) -> Times {
 
 fn derive(seed: &Seed) -> Times {
     type Derive = fn(u8, &[u8], &mut [u32]) -> Answer;
-    const S_DING: u8 = 2;
     let mut output = vec![0; Profile::HOUSE[usize::from(S_DING)].n()];
     let calls: [Derive; 2] = [proved::derive_shake, plain::derive_shake];
     let [proved, plain] = in_turns(calls, |derive| {
@@ -93,6 +102,62 @@ fn derive(seed: &Seed) -> Times {
         assert_eq!(answer, Answer::DONE);
     });
     Times { proved, plain }
+}
+
+/// Packing and unpacking as many rounded values as a message of S has.
+fn pack(random: &mut Random) -> (Times, Times) {
+    type Pack = fn(u32, &[u32], &mut [u8]) -> Answer;
+    type Unpack = fn(u32, &[u8], &mut [u32]) -> Answer;
+    let profile = Profile::HOUSE[usize::from(S_DING)];
+    let width = profile.value_width();
+    let numbers = random.numbers(profile.n(), profile.p() + 1);
+    let mut bytes = vec![0; width.bytes(numbers.len())];
+
+    let calls: [Pack; 2] = [proved::pack, plain::pack];
+    let [proved, plain] = in_turns(calls, |pack| {
+        let answer = pack(black_box(width.bits()), black_box(&numbers), black_box(&mut bytes));
+        assert_eq!(answer, Answer::DONE);
+    });
+    let packing = Times { proved, plain };
+
+    let mut unpacked = vec![0; numbers.len()];
+    let calls: [Unpack; 2] = [proved::unpack, plain::unpack];
+    let [proved, plain] = in_turns(calls, |unpack| {
+        let answer = unpack(black_box(width.bits()), black_box(&bytes), black_box(&mut unpacked));
+        assert_eq!(answer, Answer::DONE);
+    });
+    assert_eq!(unpacked, numbers);
+    (packing, Times { proved, plain })
+}
+
+/// Writing an answer from its parts, and reading it, which unpacks the rounded values and the signals.
+fn answer(random: &mut Random) -> (Times, Times) {
+    type Write = fn(u8, u32, &[u32], &[u32], &mut [u8]) -> Answer;
+    type Read = fn(u8, &[u8], &mut [u32], &mut [u32]) -> Answer;
+    const ROUND: u32 = 1;
+    let profile = Profile::HOUSE[usize::from(S_DING)];
+    let values = random.numbers(profile.n(), profile.p() + 1);
+    let signals = random.numbers(profile.n(), profile.signals().into());
+    let mut message = vec![0; Kind::Answer.length(profile)];
+
+    let calls: [Write; 2] = [proved::write_answer, plain::write_answer];
+    let [proved, plain] = in_turns(calls, |write| {
+        let (values, signals) = (black_box(&values), black_box(&signals));
+        let answer = write(S_DING, ROUND, values, signals, black_box(&mut message));
+        assert_eq!(answer, Answer::DONE);
+    });
+    let writing = Times { proved, plain };
+
+    let mut values_read = vec![0; values.len()];
+    let mut signals_read = vec![0; signals.len()];
+    let calls: [Read; 2] = [proved::read_answer, plain::read_answer];
+    let [proved, plain] = in_turns(calls, |read| {
+        let (values, signals) = (black_box(&mut values_read), black_box(&mut signals_read));
+        let answer = read(S_DING, black_box(&message), values, signals);
+        assert_eq!(answer, Answer(ROUND.into()));
+    });
+    assert_eq!((values_read, signals_read), (values, signals));
+    (writing, Times { proved, plain })
 }
 
 /// What each of the calls takes, in microseconds: the median over the rounds, in each of which every call is repeated
