@@ -6,17 +6,24 @@ use Rattle.profile.specs.declared.numbers.Numbers.{Numbers}
 abbrev pub packed_length : ℕ → ℕ → ℕ
 packed_length many width = (many * width + 7) / 8
 
+-- n rounded values, and n signals
+abbrev pub values_length : Numbers → ℕ
+values_length k = packed_length k.n k.w
+
+abbrev pub signals_length : Numbers → ℕ
+signals_length k = packed_length k.n k.signal_width
+
 -- a section is the count of its bytes, in two bytes, and then the bytes
 abbrev pub section_length : ℕ → ℕ
 section_length bytes = 2 + bytes
 
 -- a head of seven bytes, a seed of sixteen, and the rounded values
 abbrev pub offer_length : Numbers → ℕ
-offer_length k = section_length 7 + section_length 16 + section_length (packed_length k.n k.w)
+offer_length k = section_length 7 + section_length 16 + section_length (values_length k)
 
 -- a head, the rounded values and the signals
 abbrev pub answer_length : Numbers → ℕ
-answer_length k = section_length 7 + section_length (packed_length k.n k.w) + section_length (packed_length k.n k.signal_width)
+answer_length k = section_length 7 + section_length (values_length k) + section_length (signals_length k)
 
 abbrev pub confirmation_length : ℕ
 confirmation_length = section_length 7

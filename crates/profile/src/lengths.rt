@@ -1,6 +1,6 @@
 // The lengths in bytes of a profile's messages and key.
 ghost use Rattle.std.specs.Prelude.{◌≡◌, ◌+◌, ◌≤◌};
-ghost use Rattle.profile.specs.Lengths.{packed_length, section_length, offer_length, answer_length, confirmation_length, key_length};
+ghost use Rattle.profile.specs.Lengths.{packed_length, values_length, signals_length, section_length, offer_length, answer_length, confirmation_length, key_length};
 
 use crate::profile::Profile;
 
@@ -25,21 +25,34 @@ fn section(bytes: usize) -> usize
     2 + bytes
 }
 
+// The rounded values of an element.
+pub fn values_length<P: Profile>() -> usize
+    ensures value { result ≡ values_length P.NUMBERS }
+    ensures bound { result ≤ 2048 }
+{
+    packed::<P>(P::NUMBERS.w)
+}
+
+// Its signals.
+pub fn signals_length<P: Profile>() -> usize
+    ensures value { result ≡ signals_length P.NUMBERS }
+    ensures bound { result ≤ 2048 }
+{
+    packed::<P>(P::NUMBERS.signal_width)
+}
+
 // Head, seed and rounded values.
 pub fn offer_length<P: Profile>() -> usize
     ensures { result ≡ offer_length P.NUMBERS }
 {
-    let values = packed::<P>(P::NUMBERS.w);
-    section(HEAD) + section(SEED) + section(values)
+    section(HEAD) + section(SEED) + section(values_length::<P>())
 }
 
 // Head, rounded values and signals.
 pub fn answer_length<P: Profile>() -> usize
     ensures { result ≡ answer_length P.NUMBERS }
 {
-    let values = packed::<P>(P::NUMBERS.w);
-    let signals = packed::<P>(P::NUMBERS.signal_width);
-    section(HEAD) + section(values) + section(signals)
+    section(HEAD) + section(values_length::<P>()) + section(signals_length::<P>())
 }
 
 // The head alone, in every profile.

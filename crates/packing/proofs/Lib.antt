@@ -1,0 +1,10 @@
+pub mod PackedLengths
+pub mod Digits
+pub mod Bits
+pub mod Numbers
+pub mod Joining
+pub mod Fitting
+pub mod Eights
+pub mod Splitting
+pub mod EightsBack
+pub mod Laws

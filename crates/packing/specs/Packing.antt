@@ -1,0 +1,40 @@
+-- Numbers of a few bits each, one after another, low bit first, as bytes.
+use Rattle.std.specs.Prelude.{ℕ, zero, suc, ◌+◌, ◌*◌, ◌/◌, ◌%◌, ◌^◌, ◌<◌, ltb, List, [], ◌∷◌, length, ◌==◌, Ok, Result, All}
+use Rattle.std.specs.List.{prefix_len}
+use Rattle.ring.specs.Faults.{checked}
+use Rattle.ring.specs.declared.fault.Fault.{Fault}
+use Rattle.ring.specs.declared.fault.Fault.TheVariants.{WrongLength}
+use Rattle.profile.specs.Lengths.{packed_length}
+
+-- what digits of w bits stand for, the lowest digit first
+abbrev pub number : (w : ℕ) → List ℕ → ℕ
+number w [] = 0
+number w (x ∷ xs) = x + 2 ^ w * number w xs
+
+-- the lowest digits of w bits of a number, so many of them, the lowest first
+abbrev pub digits : (w many : ℕ) → ℕ → List ℕ
+digits w zero x = []
+digits w (suc many) x = x % 2 ^ w ∷ digits w many (x / 2 ^ w)
+
+-- the bytes of numbers of w bits: those of the number whose digits they are
+abbrev pub packed : (w : ℕ) → List ℕ → List ℕ
+packed w xs = digits 8 (packed_length (length xs) w) (number w xs)
+
+-- the numbers of w bits that bytes hold, so many of them
+abbrev pub unpacked : (w many : ℕ) → List ℕ → List ℕ
+unpacked w many bytes = digits w many (number 8 bytes)
+
+abbrev pub AllFit : (w : ℕ) → List ℕ → Type 0
+AllFit w xs = All (λ x. x < 2 ^ w) xs
+
+-- how many come before the first that has more than w bits
+abbrev pub front_fitting : (w : ℕ) → List ℕ → ℕ
+front_fitting w xs = prefix_len (λ x. ltb x (2 ^ w)) xs
+
+-- packing into so much room
+abbrev pub pack_answer : (w : ℕ) → List ℕ → (room : ℕ) → Result (Unit {0}) Fault
+pack_answer w xs room = checked (room == packed_length (length xs) w) (WrongLength 4) (Ok tt)
+
+-- unpacking so many numbers
+abbrev pub unpack_answer : (w : ℕ) → List ℕ → (many : ℕ) → Result (Unit {0}) Fault
+unpack_answer w bytes many = checked (length bytes == packed_length many w) (WrongLength 1) (Ok tt)

@@ -1,0 +1,15 @@
+// Packing: numbers of 1 to 16 bits, one after another in bytes, low bit first.
+#![tactic(auto)]
+
+mod fields;
+mod lengths;
+mod pack;
+mod profiles;
+mod theorems;
+mod unpack;
+mod width;
+
+pub use fields::Fields;
+pub use profiles::{signals_width, values_width};
+pub use theorems::packing_is_lawful;
+pub use width::Width;

@@ -1,0 +1,78 @@
+// Packing: from numbers to bytes.
+ghost use Rattle.std.specs.Prelude.{◌≡◌, ◌≤◌, ◌<◌, IfOk, MatchResult, OnOk, length};
+ghost use Rattle.ring.specs.Faults.{after};
+ghost use Rattle.profile.specs.Lengths.{packed_length};
+ghost use Rattle.packing.specs.Packing.{AllFit, front_fitting, number, pack_answer, packed, unpacked};
+
+use crate::fields::Fields;
+use crate::width::Width;
+use ring::Fault;
+
+impl<'a> Fields<'a> {
+    // The list, or the index of the first number that has more bits than the width.
+    #[tactic(auto, using(crate::proofs::Fitting::all_fit))]
+    pub fn check(width: Width, numbers: &'a [u32]) -> Result<Self, usize>
+        ensures answer { MatchResult result
+            (λ _. length numbers.now ≤ front_fitting width.bits numbers.now)
+            (λ i. (i ≡ front_fitting width.bits numbers.now) × (i < length numbers.now)) }
+        ensures same_width { IfOk result (λ fields. fields.width ≡ width) }
+        ensures same_numbers { IfOk result (λ fields. fields.numbers.now ≡ numbers.now) }
+    {
+        let front = front_fitting(width, numbers);
+        if front < numbers.len() {
+            return Err(front);
+        }
+        Ok(Fields { width, numbers })
+    }
+
+    // Writes the bytes of the numbers into `output`, which has to have their length.
+    pub fn pack(self, output: &mut [u8]) -> Result<(), Fault>
+        ensures answer { result ≡ pack_answer self.entry.width.bits self.entry.numbers.now (length output.old) }
+        ensures writes { output.new ≡ after result (packed self.entry.width.bits self.entry.numbers.now) output.old }
+        ensures unpacks { let w = self.entry.width.bits in let xs = self.entry.numbers.now in
+            OnOk result (unpacked w (length xs) output.new ≡ xs) }
+    {
+        let Fields { width, numbers } = self;
+        if output.len() != width.packed_length(numbers.len()) {
+            return Err(Fault::WrongLength(4));
+        }
+        let size = width.bits as usize;
+        let (eights, rest) = numbers.as_chunks::<8>();
+        for (i, eight) in eights.iter().enumerate() {
+            pack_eight(width, eight, &mut output[i * size..(i + 1) * size]);
+        }
+        pack_eight(width, rest, &mut output[eights.len() * size..]);
+        Ok(())
+    }
+}
+
+// How many numbers come before the first that has more bits than the width.
+fn front_fitting(width: Width, numbers: &[u32]) -> usize
+    ensures { result ≡ front_fitting width.bits numbers.now }
+{
+    numbers.iter().take_while(|x| width.fits(**x)).count()
+}
+
+// Writes the bytes of up to eight numbers.
+fn pack_eight(width: Width, numbers: &[u32], output: &mut [u8])
+    requires few { length numbers.now ≤ 8 }
+    requires fit { AllFit width.bits numbers.now }
+    requires long { length output.old ≡ packed_length (length numbers.now) width.bits }
+    ensures { output.new ≡ packed width.bits numbers.now }
+{
+    let bytes = joined(width, numbers).to_le_bytes();
+    output.copy_from_slice(&bytes[..output.len()]);
+}
+
+// The number whose digits are up to eight numbers: it has at most 128 bits.
+fn joined(width: Width, digits: &[u32]) -> u128
+    requires few { length digits.now ≤ 8 }
+    requires fit { AllFit width.bits digits.now }
+    ensures { result ≡ number width.bits digits.now }
+{
+    let mut sum = 0;
+    for (i, digit) in digits.iter().enumerate() {
+        sum += u128::from(*digit) << (i as u32 * width.bits);
+    }
+    sum
+}

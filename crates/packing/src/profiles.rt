@@ -1,0 +1,19 @@
+// The widths of what a profile packs.
+ghost use Rattle.std.specs.Prelude.{◌≡◌};
+
+use crate::width::Width;
+use profile::Profile;
+
+// That of rounded values.
+pub fn values_width<P: Profile>() -> Width
+    ensures { result.bits ≡ P.NUMBERS.w }
+{
+    Width::new(P::NUMBERS.w).unwrap()
+}
+
+// That of signals.
+pub fn signals_width<P: Profile>() -> Width
+    ensures { result.bits ≡ P.NUMBERS.signal_width }
+{
+    Width::new(P::NUMBERS.signal_width).unwrap()
+}

@@ -1,0 +1,59 @@
+// Unpacking: from bytes to numbers.
+ghost use Rattle.std.specs.Prelude.{◌≡◌, ◌≤◌, OnOk, length};
+ghost use Rattle.ring.specs.Faults.{after};
+ghost use Rattle.profile.specs.Lengths.{packed_length};
+ghost use Rattle.packing.specs.Packing.{digits, packed, unpack_answer, unpacked};
+ghost use Rattle.packing.specs.PackingLaws.{SpareClear};
+
+use crate::width::Width;
+use ring::Fault;
+
+impl Width {
+    // Reads as many numbers of this width as `numbers` has room for from their bytes, which have to have their length.
+    // Spare bits are not looked at.
+    pub fn unpack(self, bytes: &[u8], numbers: &mut [u32]) -> Result<(), Fault>
+        ensures answer { result ≡ unpack_answer self.bits bytes.now (length numbers.old) }
+        ensures reads { numbers.new ≡ after result (unpacked self.bits (length numbers.old) bytes.now) numbers.old }
+        ensures packs { SpareClear self.bits (length numbers.old) bytes.now
+            → OnOk result (packed self.bits numbers.new ≡ bytes.now) }
+    {
+        if bytes.len() != self.packed_length(numbers.len()) {
+            return Err(Fault::WrongLength(1));
+        }
+        let size = self.bits as usize;
+        let eights = numbers.len() / 8;
+        for i in 0..eights {
+            unpack_eight(
+                self,
+                &bytes[i * size..(i + 1) * size],
+                &mut numbers[8 * i..8 * (i + 1)],
+            );
+        }
+        unpack_eight(self, &bytes[eights * size..], &mut numbers[8 * eights..]);
+        Ok(())
+    }
+}
+
+// Reads up to eight numbers from their bytes.
+fn unpack_eight(width: Width, bytes: &[u8], numbers: &mut [u32])
+    requires few { length numbers.old ≤ 8 }
+    requires long { length bytes.now ≡ packed_length (length numbers.old) width.bits }
+    ensures { numbers.new ≡ unpacked width.bits (length numbers.old) bytes.now }
+{
+    let mut block = [0; 16];
+    block[..bytes.len()].copy_from_slice(bytes);
+    split(width, u128::from_le_bytes(block), numbers);
+}
+
+// The lowest digits of a number.
+#[tactic(auto, using(crate::proofs::Splitting::low_bits, crate::proofs::Splitting::split_more))]
+fn split(width: Width, joined: u128, numbers: &mut [u32])
+    ensures { numbers.new ≡ digits width.bits (length numbers.old) joined }
+{
+    let mask = (1 << width.bits) - 1;
+    let mut rest = joined;
+    for number in numbers.iter_mut() {
+        *number = (rest & mask) as u32;
+        rest >>= width.bits;
+    }
+}
