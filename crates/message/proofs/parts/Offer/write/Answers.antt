@@ -1,0 +1,28 @@
+use Rattle.std.proofs.Common.{◌≡◌, ◌+◌, ◌∙◌, length, sym, ap, refl, arith, rules}
+use Rattle.profile.specs.Lengths.{packed_length}
+use Rattle.profile.specs.declared.numbers.Numbers.{Numbers}
+use Rattle.packing.specs.Packing.{packed}
+use Rattle.packing.proofs.Eights.{length-packed}
+use Rattle.message.specs.Messages.{head, section}
+use Rattle.message.specs.declared.kind.Kind.TheVariants.{Offer}
+use Rattle.message.specs.Sections.{written_at}
+use Rattle.message.proofs.Written.{three_written}
+use Rattle.message.proofs.parts.Offer.write.Goals as goal
+
+pub returns-clause-writes : goal.returns-clause-writes
+returns-clause-writes g c =
+    let k = g.P.Profile.NUMBERS in
+    let fields = c.in_ok-values.values in
+    let width : fields.width.bits ≡ k.w = search rules in
+    let numbers : fields.numbers.now ≡ c.args.self.values.now = search rules in
+    let values = packed k.w c.args.self.values.now in
+    let contents : packed fields.width.bits fields.numbers.now ≡ values = (λ j. packed (width j) (numbers j)) in
+    let count : length c.args.self.values.now ≡ k.n = omega (arith, c.if-values-NUMBERS.false, ap (λ (s : Numbers). s.n) c.NUMBERS.ensures) in
+    let long = length-packed k.w c.args.self.values.now ∙ ap (λ n. packed_length n k.w) count in
+    three_written (section (head k Offer c.args.self.round)) (section c.args.self.seed.now) (section values) c.args.out.now _ _ _ _ _
+    (c.write_section-at.ensures.writes ∙ ap (λ h. written_at 0 (section h) c.args.out.now) c.head.ensures)
+    (omega (arith, c.write_section-at.ensures.end))
+    c.write_section-at-2.ensures.writes
+    (omega (arith, c.write_section-at-2.ensures.end))
+    (c.pack_section.ensures.writes ∙ ap (λ bytes. written_at c.write_section-at-2.result (section bytes) c.write_section-at-2.new.out) contents)
+    (omega (arith, long, c.offer_length.ensures, c.if-out-offer_length.false))

@@ -1,0 +1,41 @@
+// Why a message is refused.
+ghost use Rattle.std.specs.Prelude.{◌≡◌};
+ghost use Rattle.message.specs.Faults.{layer_of, number_of, place_of};
+
+// Each case holds the place of the fault, an offset in the message. `layer`, `number` and `place` are what is reported of
+// it.
+#[derive(Clone, Copy, PartialEq, Eq, Debug)]
+pub enum Fault {
+    // a count that is missing or wrong, contents that are cut short, or bytes after the last section
+    WrongShape(usize),
+    // a byte of the head that is not that of the kind or of the profile
+    WrongHead(usize),
+    // a byte with a spare bit set
+    SpareBit(usize),
+}
+
+impl Fault {
+    pub fn layer(self) -> u8
+        ensures { result ≡ layer_of self }
+    {
+        2
+    }
+
+    pub fn number(self) -> u8
+        ensures { result ≡ number_of self }
+    {
+        match self {
+            Fault::WrongShape(_) => 7,
+            Fault::WrongHead(_) => 8,
+            Fault::SpareBit(_) => 9,
+        }
+    }
+
+    pub fn place(self) -> usize
+        ensures { result ≡ place_of self }
+    {
+        match self {
+            Fault::WrongShape(place) | Fault::WrongHead(place) | Fault::SpareBit(place) => place,
+        }
+    }
+}

@@ -1,0 +1,13 @@
+// Messages: how an offer, an answer and a confirmation are written from their parts and read back.
+#![tactic(auto)]
+
+mod fault;
+mod head;
+mod kind;
+mod parts;
+mod sections;
+mod writing;
+
+pub use fault::Fault;
+pub use kind::Kind;
+pub use parts::{Answer, Confirmation, Offer};

@@ -1,0 +1,47 @@
+// How a section is written into its place of a message.
+ghost use Rattle.std.specs.Prelude.{◌≡◌, ◌+◌, ◌^◌, ◌<◌, ◌≤◌, length};
+ghost use Rattle.profile.specs.Lengths.{packed_length};
+ghost use Rattle.packing.specs.Packing.{packed};
+ghost use Rattle.message.specs.Messages.{low_first, section};
+ghost use Rattle.message.specs.Sections.{written_at};
+
+use packing::Fields;
+
+// Writes the count of a section's bytes at `at`. The result is where the bytes begin.
+fn write_count(out: &mut [u8], at: usize, count: usize) -> usize
+    requires inside { at + 2 ≤ length out.old }
+    requires counted { count < 2 ^ 16 }
+    ensures end { result ≡ at + 2 }
+    ensures writes { out.new ≡ written_at at (low_first 2 count) out.old }
+{
+    let start = at + 2;
+    out[at..start].copy_from_slice(&(count as u16).to_le_bytes());
+    start
+}
+
+// Writes a section at `at`, its count and its bytes. The result is where the section ends.
+pub(crate) fn write_section(out: &mut [u8], at: usize, contents: &[u8]) -> usize
+    requires inside { at + 2 + length contents.now ≤ length out.old }
+    requires counted { length contents.now < 2 ^ 16 }
+    ensures end { result ≡ at + 2 + length contents.now }
+    ensures writes { out.new ≡ written_at at (section contents.now) out.old }
+{
+    let start = write_count(out, at, contents.len());
+    let end = start + contents.len();
+    out[start..end].copy_from_slice(contents);
+    end
+}
+
+// The same for numbers, which are packed into the section's own stretch of `out`.
+pub(crate) fn pack_section(out: &mut [u8], at: usize, bytes: usize, fields: Fields<'_>) -> usize
+    requires long { bytes ≡ packed_length (length fields.numbers.now) fields.width.bits }
+    requires inside { at + 2 + bytes ≤ length out.old }
+    requires counted { bytes < 2 ^ 16 }
+    ensures end { result ≡ at + 2 + bytes }
+    ensures writes { out.new ≡ written_at at (section (packed fields.entry.width.bits fields.entry.numbers.now)) out.old }
+{
+    let start = write_count(out, at, bytes);
+    let end = start + bytes;
+    fields.pack(&mut out[start..end]).unwrap();
+    end
+}

@@ -1,0 +1,82 @@
+// Writing messages from their parts.
+ghost use Rattle.std.specs.Prelude.{◌≡◌, OnOk, length};
+ghost use Rattle.ring.specs.Faults.{after};
+ghost use Rattle.message.specs.Messages.{encoded, offer, answer, confirmation};
+ghost use Rattle.message.specs.Writing.{write_answer};
+
+use crate::head::head;
+use crate::kind::Kind;
+use crate::parts::{Answer, Confirmation, Offer};
+use crate::sections::{pack_section, write_section};
+use packing::{Fields, signals_width, values_width};
+use profile::{Profile, answer_length, confirmation_length, offer_length, signals_length, values_length};
+use ring::Fault;
+
+impl Offer<'_> {
+    // Writes the offer of these parts into `out`, or leaves it as it was.
+    pub fn write<P: Profile>(self, out: &mut [u8]) -> Result<(), Fault>
+        ensures answer { let message = offer self.entry.round self.entry.seed.now self.entry.values.now in
+            result ≡ write_answer P.NUMBERS message (length out.old) }
+        ensures writes { let message = offer self.entry.round self.entry.seed.now self.entry.values.now in
+            out.new ≡ after result (encoded P.NUMBERS message) out.old }
+    {
+        let Offer { round, seed, values } = self;
+        if values.len() != P::NUMBERS.n {
+            return Err(Fault::WrongLength(1));
+        }
+        if out.len() != offer_length::<P>() {
+            return Err(Fault::WrongLength(4));
+        }
+        let values = Fields::check(values_width::<P>(), values).map_err(Fault::OutOfRange)?;
+        let at = write_section(out, 0, &head::<P>(Kind::Offer, round));
+        let at = write_section(out, at, seed);
+        pack_section(out, at, values_length::<P>(), values);
+        Ok(())
+    }
+}
+
+impl Answer<'_> {
+    // Writes the answer of these parts into `out`, or leaves it as it was.
+    pub fn write<P: Profile>(self, out: &mut [u8]) -> Result<(), Fault>
+        ensures answer { let message = answer self.entry.round self.entry.values.now self.entry.signals.now in
+            result ≡ write_answer P.NUMBERS message (length out.old) }
+        ensures writes { let message = answer self.entry.round self.entry.values.now self.entry.signals.now in
+            out.new ≡ after result (encoded P.NUMBERS message) out.old }
+    {
+        let Answer {
+            round,
+            values,
+            signals,
+        } = self;
+        let n = P::NUMBERS.n;
+        if values.len() != n {
+            return Err(Fault::WrongLength(1));
+        }
+        if signals.len() != n {
+            return Err(Fault::WrongLength(2));
+        }
+        if out.len() != answer_length::<P>() {
+            return Err(Fault::WrongLength(4));
+        }
+        let values = Fields::check(values_width::<P>(), values).map_err(Fault::OutOfRange)?;
+        let signals = Fields::check(signals_width::<P>(), signals).map_err(|i| Fault::OutOfRange(n + i))?;
+        let at = write_section(out, 0, &head::<P>(Kind::Answer, round));
+        let at = pack_section(out, at, values_length::<P>(), values);
+        pack_section(out, at, signals_length::<P>(), signals);
+        Ok(())
+    }
+}
+
+impl Confirmation {
+    // Writes the confirmation of this round into `out`, or leaves it as it was.
+    pub fn write<P: Profile>(self, out: &mut [u8]) -> Result<(), Fault>
+        ensures answer { result ≡ write_answer P.NUMBERS (confirmation self.round) (length out.old) }
+        ensures writes { out.new ≡ after result (encoded P.NUMBERS (confirmation self.round)) out.old }
+    {
+        if out.len() != confirmation_length() {
+            return Err(Fault::WrongLength(4));
+        }
+        write_section(out, 0, &head::<P>(Kind::Confirmation, self.round));
+        Ok(())
+    }
+}
