@@ -2,3 +2,5 @@ pub mod Faults
 pub mod Messages
 pub mod Sections
 pub mod Writing
+pub mod Shapes
+pub mod Reading

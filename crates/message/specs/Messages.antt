@@ -1,5 +1,5 @@
 -- Messages: their parts, and the bytes that they are written as.
-use Rattle.std.specs.Prelude.{◌≡◌, ℕ, ◌^◌, ◌<◌, List, [], ◌∷◌, ◌++◌, length}
+use Rattle.std.specs.Prelude.{◌≡◌, ℕ, ◌^◌, ◌<◌, List, ◌∷◌, ◌++◌, length}
 use Rattle.packing.specs.Packing.{digits, packed, AllFit}
 use Rattle.profile.specs.declared.numbers.Numbers.{Numbers}
 use Rattle.message.specs.declared.kind.Kind.{Kind}

@@ -10,5 +10,13 @@ pub(crate) fn head<P: Profile>(kind: Kind, round: u32) -> [u8; 7]
     ensures { result ≡ head P.NUMBERS kind round }
 {
     let [r0, r1, r2, r3] = round.to_le_bytes();
-    [kind.byte(), P::NUMBERS.numbers_byte, P::NUMBERS.reconciler_byte, r0, r1, r2, r3]
+    [
+        kind.byte(),
+        P::NUMBERS.numbers_byte,
+        P::NUMBERS.reconciler_byte,
+        r0,
+        r1,
+        r2,
+        r3,
+    ]
 }

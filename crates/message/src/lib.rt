@@ -5,9 +5,13 @@ mod fault;
 mod head;
 mod kind;
 mod parts;
+mod reading;
+mod section;
 mod sections;
 mod writing;
 
 pub use fault::Fault;
 pub use kind::Kind;
 pub use parts::{Answer, Confirmation, Offer};
+pub use reading::{read_answer, read_confirmation, read_offer};
+pub use section::{AnswerSections, ConfirmationSections, OfferSections, Section};

@@ -9,7 +9,9 @@ use crate::kind::Kind;
 use crate::parts::{Answer, Confirmation, Offer};
 use crate::sections::{pack_section, write_section};
 use packing::{Fields, signals_width, values_width};
-use profile::{Profile, answer_length, confirmation_length, offer_length, signals_length, values_length};
+use profile::{
+    Profile, answer_length, confirmation_length, offer_length, signals_length, values_length,
+};
 use ring::Fault;
 
 impl Offer<'_> {
@@ -20,7 +22,11 @@ impl Offer<'_> {
         ensures writes { let message = offer self.entry.round self.entry.seed.now self.entry.values.now in
             out.new ≡ after result (encoded P.NUMBERS message) out.old }
     {
-        let Offer { round, seed, values } = self;
+        let Offer {
+            round,
+            seed,
+            values,
+        } = self;
         if values.len() != P::NUMBERS.n {
             return Err(Fault::WrongLength(1));
         }
@@ -59,7 +65,9 @@ impl Answer<'_> {
             return Err(Fault::WrongLength(4));
         }
         let values = Fields::check(values_width::<P>(), values).map_err(Fault::OutOfRange)?;
-        let signals = Fields::check(signals_width::<P>(), signals).map_err(|i| Fault::OutOfRange(n + i))?;
+        let signals = Fields::check(signals_width::<P>(), signals).map_err(|i| Fault::OutOfRange(
+            n + i,
+        ))?;
         let at = write_section(out, 0, &head::<P>(Kind::Answer, round));
         let at = pack_section(out, at, values_length::<P>(), values);
         pack_section(out, at, signals_length::<P>(), signals);

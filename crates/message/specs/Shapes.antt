@@ -1,0 +1,43 @@
+-- The shape of a message: which sections there are, how long they are, and where a message is first otherwise.
+use Rattle.std.specs.Prelude.{◌≡◌, ℕ, ◌+◌, ◌≤◌, ◌&&◌, ◌==◌, Bool, List, [], ◌∷◌, length, Some, None, Option, nat_le, if◌then◌else◌}
+use Rattle.std.specs.Borrow.{Bor}
+use Rattle.std.specs.Option.{option_or}
+use Rattle.profile.specs.Lengths.{values_length, signals_length}
+use Rattle.profile.specs.declared.numbers.Numbers.{Numbers}
+use Rattle.packing.specs.Packing.{number}
+use Rattle.message.specs.declared.fault.Fault.{Fault}
+use Rattle.message.specs.declared.fault.Fault.TheVariants.{WrongShape}
+use Rattle.message.specs.declared.kind.Kind.{Kind}
+use Rattle.message.specs.declared.kind.Kind.TheVariants.{Offer, Answer, Confirmation}
+use Rattle.message.specs.declared.section.Section.{Section}
+use Rattle.message.specs.Sections.{stretch}
+
+-- how many bytes each section has
+abbrev pub layout : Numbers → Kind → List ℕ
+layout k Offer = 7 ∷ 16 ∷ values_length k ∷ []
+layout k Answer = 7 ∷ values_length k ∷ signals_length k ∷ []
+layout k Confirmation = 7 ∷ []
+
+-- whether the two bytes from an offset on are there, and are this count
+abbrev pub is_counted : (at many : ℕ) → List ℕ → Bool
+is_counted at many message = nat_le (at + 2) (length message) && number 8 (stretch at 2 message) == many
+
+-- where the section whose count is at an offset is wrong: at the count, or where the bytes begin if they are cut short
+abbrev pub section_fault : (at many : ℕ) → List ℕ → Option Fault
+section_fault at many message =
+    if is_counted at many message
+    then (if nat_le (at + 2 + many) (length message) then None else Some (WrongShape (at + 2)))
+    else Some (WrongShape at)
+
+-- where a message first differs from a row of sections that begins at an offset: nothing comes after the last section
+abbrev pub shape_fault : (at : ℕ) → List ℕ → List ℕ → Option Fault
+shape_fault at [] message = if nat_le (length message) at then None else Some (WrongShape at)
+shape_fault at (many ∷ rest) message = option_or (section_fault at many message) (shape_fault (at + 2 + many) rest message)
+
+-- a section handed out is the very stretch of the message from an offset on, in the same memory
+pub record IsStretch (message : Bor (List ℕ)) (section : Section) (at many : ℕ) : Type 0 where
+  pub offset : section.offset ≡ at
+  pub inside : at + many ≤ length message.now
+  pub bytes : section.bytes.now ≡ stretch at many message.now
+  pub same_memory : section.bytes.ref_ptr.0 ≡ message.ref_ptr.0
+  pub place_in_memory : section.bytes.ref_ptr.1 ≡ message.ref_ptr.1 + at

@@ -1,0 +1,133 @@
+// Reading messages back to their sections.
+ghost use Rattle.std.specs.Prelude.{◌≡◌, ◌+◌, ◌^◌, ◌<◌, ◌≤◌, IfOk, [], length};
+ghost use Rattle.std.specs.Result.{result_err};
+ghost use Rattle.message.specs.Reading.{IsOffer, IsAnswer, IsConfirmation, head_fault, reading_fault, round_in, spare_bit_fault};
+ghost use Rattle.message.specs.Shapes.{IsStretch, section_fault, shape_fault};
+ghost use Rattle.message.specs.declared.kind.Kind.TheVariants.{Offer, Answer, Confirmation};
+ghost use Rattle.profile.specs.Lengths.{signals_length};
+
+use crate::fault::Fault;
+use crate::kind::Kind;
+use crate::section::{AnswerSections, ConfirmationSections, OfferSections, Section};
+use profile::{Profile, signals_length, values_length};
+
+const HEAD: usize = 7;
+
+const SEED: usize = 16;
+
+// Reads a message as an offer.
+pub fn read_offer<P: Profile>(message: &[u8]) -> Result<OfferSections<'_>, Fault>
+    ensures fault { result_err result ≡ reading_fault P.NUMBERS Offer message.now }
+    ensures sections { IfOk result (λ o. IsOffer P.NUMBERS message.entry o) }
+{
+    let (head, at) = section(message, 0, HEAD)?;
+    let (seed, at) = section(message, at, SEED)?;
+    let (values, at) = section(message, at, values_length::<P>())?;
+    end(message, at)?;
+    let round = read_head::<P>(Kind::Offer, head.bytes)?;
+    Ok(OfferSections {
+        round,
+        head,
+        seed,
+        values,
+    })
+}
+
+// Reads a message as an answer.
+pub fn read_answer<P: Profile>(message: &[u8]) -> Result<AnswerSections<'_>, Fault>
+    ensures fault { result_err result ≡ reading_fault P.NUMBERS Answer message.now }
+    ensures sections { IfOk result (λ a. IsAnswer P.NUMBERS message.entry a) }
+{
+    let (head, at) = section(message, 0, HEAD)?;
+    let (values, at) = section(message, at, values_length::<P>())?;
+    let (signals, at) = section(message, at, signals_length::<P>())?;
+    end(message, at)?;
+    let round = read_head::<P>(Kind::Answer, head.bytes)?;
+    check_spare_bits::<P>(signals.offset, signals.bytes)?;
+    Ok(AnswerSections {
+        round,
+        head,
+        values,
+        signals,
+    })
+}
+
+// Reads a message as a confirmation.
+pub fn read_confirmation<P: Profile>(message: &[u8]) -> Result<ConfirmationSections<'_>, Fault>
+    ensures fault { result_err result ≡ reading_fault P.NUMBERS Confirmation message.now }
+    ensures sections { IfOk result (λ c. IsConfirmation message.entry c) }
+{
+    let (head, at) = section(message, 0, HEAD)?;
+    end(message, at)?;
+    let round = read_head::<P>(Kind::Confirmation, head.bytes)?;
+    Ok(ConfirmationSections { round, head })
+}
+
+// The section of so many bytes whose count is at `at`, and where it ends.
+fn section<'m>(message: &'m [u8], at: usize, many: usize) -> Result<(Section<'m>, usize), Fault>
+    requires { at ≤ length message.now }
+    ensures fault { result_err result ≡ section_fault at many message.now }
+    ensures stretch { IfOk result (λ s. IsStretch message.entry s.0 (at + 2) many) }
+    ensures long { IfOk result (λ s. length s.0.bytes.now ≡ many) }
+    ensures end { IfOk result (λ s. s.1 ≡ at + 2 + many) }
+{
+    let [low, high, bytes @ ..] = &message[at..] else {
+        return Err(Fault::WrongShape(at));
+    };
+    if usize::from(u16::from_le_bytes([*low, *high])) != many {
+        return Err(Fault::WrongShape(at));
+    }
+    let offset = at + 2;
+    if bytes.len() < many {
+        return Err(Fault::WrongShape(offset));
+    }
+    let end = offset + many;
+    let bytes = &message[offset..end];
+    Ok((Section { offset, bytes }, end))
+}
+
+// That nothing comes after the last section.
+fn end(message: &[u8], at: usize) -> Result<(), Fault>
+    ensures { result_err result ≡ shape_fault at [] message.now }
+{
+    if message.len() > at {
+        return Err(Fault::WrongShape(at));
+    }
+    Ok(())
+}
+
+// The round that the head tells, if its other bytes are those of the kind and the profile.
+fn read_head<P: Profile>(kind: Kind, head: &[u8]) -> Result<u32, Fault>
+    requires { length head.now ≡ 7 }
+    ensures fault { result_err result ≡ head_fault P.NUMBERS kind head.now }
+    ensures round { IfOk result (λ round. round ≡ round_in head.now) }
+{
+    let [first, numbers, reconciler, r0, r1, r2, r3] = head else {
+        unreachable!();
+    };
+    if *first != kind.byte() {
+        return Err(Fault::WrongHead(2));
+    }
+    if *numbers != P::NUMBERS.numbers_byte {
+        return Err(Fault::WrongHead(3));
+    }
+    if *reconciler != P::NUMBERS.reconciler_byte {
+        return Err(Fault::WrongHead(4));
+    }
+    Ok(u32::from_le_bytes([*r0, *r1, *r2, *r3]))
+}
+
+// That no bit is set after those of n signals, which begin at an offset: the last byte may have some.
+fn check_spare_bits<P: Profile>(offset: usize, signals: &[u8]) -> Result<(), Fault>
+    requires long { length signals.now ≡ signals_length P.NUMBERS }
+    requires inside { offset + length signals.now < 2 ^ 64 }
+    ensures { let k = P.NUMBERS in
+        result_err result ≡ spare_bit_fault k.n k.signal_width offset (signals_length k) signals.now }
+{
+    let last = signals.len() - 1;
+    let used = P::NUMBERS.n * P::NUMBERS.signal_width as usize - 8 * last;
+    if u32::from(signals[last]) >> used > 0 {
+        return Err(Fault::SpareBit(offset + last));
+    }
+    Ok(())
+}
