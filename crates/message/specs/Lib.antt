@@ -2,5 +2,6 @@ pub mod Faults
 pub mod Messages
 pub mod Sections
 pub mod Writing
+pub mod Lines
 pub mod Shapes
 pub mod Reading

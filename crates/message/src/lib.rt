@@ -4,6 +4,7 @@
 mod fault;
 mod head;
 mod kind;
+mod line;
 mod parts;
 mod reading;
 mod section;
@@ -12,6 +13,7 @@ mod writing;
 
 pub use fault::Fault;
 pub use kind::Kind;
+pub use line::bench_line;
 pub use parts::{Answer, Confirmation, Offer};
 pub use reading::{read_answer, read_confirmation, read_offer};
 pub use section::{AnswerSections, ConfirmationSections, OfferSections, Section};

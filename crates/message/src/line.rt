@@ -1,0 +1,24 @@
+// Lines that show bytes.
+ghost use Rattle.std.specs.Prelude.{◌≡◌, length};
+ghost use Rattle.ring.specs.Faults.{after};
+ghost use Rattle.message.specs.Lines.{line, line_answer};
+
+use ring::Fault;
+
+// Writes the line of the bench program that shows bytes under a word into `out`, which has to have its length.
+pub fn bench_line(word: &str, bytes: &[u8], out: &mut [u8]) -> Result<(), Fault>
+    ensures answer { result ≡ line_answer word.now bytes.now (length out.old) }
+    ensures writes { out.new ≡ after result (line word.now bytes.now) out.old }
+{
+    let length = word.len() as u128 + 2 * bytes.len() as u128 + 2;
+    if out.len() as u128 != length {
+        return Err(Fault::WrongLength(4));
+    }
+    let space = word.len();
+    let newline = out.len() - 1;
+    out[..space].copy_from_slice(word.as_bytes());
+    out[space] = b' ';
+    hex::encode_to_slice(bytes, &mut out[space + 1..newline]).unwrap();
+    out[newline] = b'\n';
+    Ok(())
+}
