@@ -1,3 +1,10 @@
 pub mod Written
+pub mod Rows
+pub mod Heads
+pub mod ReadBack
+pub mod WrittenAgain
+pub mod Alike
+pub mod LeastPlaces
+pub mod Laws
 pub mod Lines
 pub mod SpareBits

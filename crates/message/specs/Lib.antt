@@ -5,3 +5,4 @@ pub mod Writing
 pub mod Lines
 pub mod Shapes
 pub mod Reading
+pub mod MessageLaws

@@ -9,6 +9,7 @@ mod parts;
 mod reading;
 mod section;
 mod sections;
+mod theorems;
 mod writing;
 
 pub use fault::Fault;
@@ -17,3 +18,4 @@ pub use line::bench_line;
 pub use parts::{Answer, Confirmation, Offer};
 pub use reading::{read_answer, read_confirmation, read_offer};
 pub use section::{AnswerSections, ConfirmationSections, OfferSections, Section};
+pub use theorems::message_laws;

@@ -1,0 +1,53 @@
+-- What is proved of messages as such, of every profile's numbers.
+use Rattle.std.specs.Prelude.{◌≡◌, ℕ, ◌+◌, ◌<◌, ◌⊎◌, List, [], ◌∷◌, length, Ok, Some, None, false}
+use Rattle.profile.specs.Laws.{InRange}
+use Rattle.profile.specs.declared.numbers.Numbers.{Numbers}
+use Rattle.packing.specs.Packing.{AllFit}
+use Rattle.message.specs.declared.fault.Fault.TheVariants.{WrongShape}
+use Rattle.message.specs.declared.kind.Kind.{Kind}
+use Rattle.message.specs.Messages.{Message, HasLawfulParts, IsRound, encoded, kind_of, round_of}
+use Rattle.message.specs.Reading.{reading}
+use Rattle.message.specs.Shapes.{is_counted, shape_fault}
+
+-- a written message reads back to its parts
+abbrev pub ReadsBack : Numbers → Type 0
+ReadsBack k = (m : Message) → HasLawfulParts k m → reading k (kind_of m) (encoded k m) ≡ Ok m
+
+-- an accepted message is what its parts are written as
+pub record WrittenFrom (k : Numbers) (kind : Kind) (bytes : List ℕ) (m : Message) : Type 0 where
+  pub same_kind : kind_of m ≡ kind
+  pub lawful : HasLawfulParts k m
+  pub same_bytes : encoded k m ≡ bytes
+
+abbrev pub IsWrittenFromItsParts : Numbers → Type 0
+IsWrittenFromItsParts k = (kind : Kind) (bytes : List ℕ) (m : Message) → AllFit 8 bytes → reading k kind bytes ≡ Ok m → WrittenFrom k kind bytes m
+
+-- messages with the same bytes are of one kind, one profile and one round
+pub record Alike (k l : Numbers) (m o : Message) : Type 0 where
+  pub kind : kind_of m ≡ kind_of o
+  pub numbers_byte : k.numbers_byte ≡ l.numbers_byte
+  pub reconciler_byte : k.reconciler_byte ≡ l.reconciler_byte
+  pub round : round_of m ≡ round_of o
+
+abbrev pub TellsKindProfileAndRound : Type 0
+TellsKindProfileAndRound = (k l : Numbers) (m o : Message) → IsRound (round_of m) → IsRound (round_of o) → encoded k m ≡ encoded l o → Alike k l m o
+
+-- the places at which a message is not a row of sections that begins at an offset: a count that is missing or wrong, the
+-- start of contents that are cut short, the first byte after the last section
+abbrev pub IsWrongAt : (at : ℕ) → List ℕ → List ℕ → ℕ → Type 0
+IsWrongAt at [] message place = (place ≡ at) × (at < length message)
+IsWrongAt at (many ∷ rest) message place = ((place ≡ at) × (is_counted at many message ≡ false)) ⊎ ((place ≡ at + 2) × (length message < at + 2 + many)) ⊎ IsWrongAt (at + 2 + many) rest message place
+
+-- a refusal by shape names the least of these places, and without one there is none
+abbrev pub RefusesAtTheLeast : Type 0
+RefusesAtTheLeast = (at : ℕ) (layout message : List ℕ) (place : ℕ) → shape_fault at layout message ≡ Some (WrongShape place) → IsWrongAt at layout message place × ((sooner : ℕ) → sooner < place → IsWrongAt at layout message sooner → ⊥)
+
+abbrev pub RefusesWhereWrong : Type 0
+RefusesWhereWrong = (at : ℕ) (layout message : List ℕ) (place : ℕ) → shape_fault at layout message ≡ None → IsWrongAt at layout message place → ⊥
+
+pub record MessageLaws : Type 0 where
+  pub reads_back : (k : Numbers) → InRange k → ReadsBack k
+  pub is_written_from_its_parts : (k : Numbers) → InRange k → IsWrittenFromItsParts k
+  pub tells_kind_profile_and_round : TellsKindProfileAndRound
+  pub refuses_at_the_least : RefusesAtTheLeast
+  pub refuses_where_wrong : RefusesWhereWrong
