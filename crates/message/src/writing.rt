@@ -1,7 +1,8 @@
 // Writing messages from their parts.
-ghost use Rattle.std.specs.Prelude.{◌≡◌, OnOk, length};
+ghost use Rattle.std.specs.Prelude.{◌≡◌, OnOk, Ok, length};
 ghost use Rattle.ring.specs.Faults.{after};
-ghost use Rattle.message.specs.Messages.{encoded, offer, answer, confirmation};
+ghost use Rattle.message.specs.Messages.{encoded, kind_of, offer, answer, confirmation};
+ghost use Rattle.message.specs.Reading.{reading};
 ghost use Rattle.message.specs.Writing.{write_answer};
 
 use crate::head::head;
@@ -21,6 +22,8 @@ impl Offer<'_> {
             result ≡ write_answer P.NUMBERS message (length out.old) }
         ensures writes { let message = offer self.entry.round self.entry.seed.now self.entry.values.now in
             out.new ≡ after result (encoded P.NUMBERS message) out.old }
+        ensures reads_back { let message = offer self.entry.round self.entry.seed.now self.entry.values.now in
+            OnOk result (reading P.NUMBERS (kind_of message) out.new ≡ Ok message) }
     {
         let Offer {
             round,
@@ -48,6 +51,8 @@ impl Answer<'_> {
             result ≡ write_answer P.NUMBERS message (length out.old) }
         ensures writes { let message = answer self.entry.round self.entry.values.now self.entry.signals.now in
             out.new ≡ after result (encoded P.NUMBERS message) out.old }
+        ensures reads_back { let message = answer self.entry.round self.entry.values.now self.entry.signals.now in
+            OnOk result (reading P.NUMBERS (kind_of message) out.new ≡ Ok message) }
     {
         let Answer {
             round,
@@ -80,6 +85,8 @@ impl Confirmation {
     pub fn write<P: Profile>(self, out: &mut [u8]) -> Result<(), Fault>
         ensures answer { result ≡ write_answer P.NUMBERS (confirmation self.round) (length out.old) }
         ensures writes { out.new ≡ after result (encoded P.NUMBERS (confirmation self.round)) out.old }
+        ensures reads_back { let message = confirmation self.round in
+            OnOk result (reading P.NUMBERS (kind_of message) out.new ≡ Ok message) }
     {
         if out.len() != confirmation_length() {
             return Err(Fault::WrongLength(4));
