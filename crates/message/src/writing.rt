@@ -1,7 +1,8 @@
 // Writing messages from their parts.
 ghost use Rattle.std.specs.Prelude.{◌≡◌, OnOk, Ok, length};
 ghost use Rattle.ring.specs.Faults.{after};
-ghost use Rattle.message.specs.Messages.{encoded, kind_of, offer, answer, confirmation};
+ghost use Rattle.message.specs.Messages.{encoded, kind_of};
+ghost use Rattle.message.specs.Parts.{offer_of, answer_of, confirmation_of};
 ghost use Rattle.message.specs.Reading.{reading};
 ghost use Rattle.message.specs.Writing.{write_answer};
 
@@ -18,11 +19,9 @@ use ring::Fault;
 impl Offer<'_> {
     // Writes the offer of these parts into `out`, or leaves it as it was.
     pub fn write<P: Profile>(self, out: &mut [u8]) -> Result<(), Fault>
-        ensures answer { let message = offer self.entry.round self.entry.seed.now self.entry.values.now in
-            result ≡ write_answer P.NUMBERS message (length out.old) }
-        ensures writes { let message = offer self.entry.round self.entry.seed.now self.entry.values.now in
-            out.new ≡ after result (encoded P.NUMBERS message) out.old }
-        ensures reads_back { let message = offer self.entry.round self.entry.seed.now self.entry.values.now in
+        ensures answer { result ≡ write_answer P.NUMBERS (offer_of self.entry) (length out.old) }
+        ensures writes { out.new ≡ after result (encoded P.NUMBERS (offer_of self.entry)) out.old }
+        ensures reads_back { let message = offer_of self.entry in
             OnOk result (reading P.NUMBERS (kind_of message) out.new ≡ Ok message) }
     {
         let Offer {
@@ -47,11 +46,9 @@ impl Offer<'_> {
 impl Answer<'_> {
     // Writes the answer of these parts into `out`, or leaves it as it was.
     pub fn write<P: Profile>(self, out: &mut [u8]) -> Result<(), Fault>
-        ensures answer { let message = answer self.entry.round self.entry.values.now self.entry.signals.now in
-            result ≡ write_answer P.NUMBERS message (length out.old) }
-        ensures writes { let message = answer self.entry.round self.entry.values.now self.entry.signals.now in
-            out.new ≡ after result (encoded P.NUMBERS message) out.old }
-        ensures reads_back { let message = answer self.entry.round self.entry.values.now self.entry.signals.now in
+        ensures answer { result ≡ write_answer P.NUMBERS (answer_of self.entry) (length out.old) }
+        ensures writes { out.new ≡ after result (encoded P.NUMBERS (answer_of self.entry)) out.old }
+        ensures reads_back { let message = answer_of self.entry in
             OnOk result (reading P.NUMBERS (kind_of message) out.new ≡ Ok message) }
     {
         let Answer {
@@ -70,9 +67,8 @@ impl Answer<'_> {
             return Err(Fault::WrongLength(4));
         }
         let values = Fields::check(values_width::<P>(), values).map_err(Fault::OutOfRange)?;
-        let signals = Fields::check(signals_width::<P>(), signals).map_err(|i| Fault::OutOfRange(
-            n + i,
-        ))?;
+        let width = signals_width::<P>();
+        let signals = Fields::check(width, signals).map_err(|i| Fault::OutOfRange(n + i))?;
         let at = write_section(out, 0, &head::<P>(Kind::Answer, round));
         let at = pack_section(out, at, values_length::<P>(), values);
         pack_section(out, at, signals_length::<P>(), signals);
@@ -83,9 +79,9 @@ impl Answer<'_> {
 impl Confirmation {
     // Writes the confirmation of this round into `out`, or leaves it as it was.
     pub fn write<P: Profile>(self, out: &mut [u8]) -> Result<(), Fault>
-        ensures answer { result ≡ write_answer P.NUMBERS (confirmation self.round) (length out.old) }
-        ensures writes { out.new ≡ after result (encoded P.NUMBERS (confirmation self.round)) out.old }
-        ensures reads_back { let message = confirmation self.round in
+        ensures answer { result ≡ write_answer P.NUMBERS (confirmation_of self) (length out.old) }
+        ensures writes { out.new ≡ after result (encoded P.NUMBERS (confirmation_of self)) out.old }
+        ensures reads_back { let message = confirmation_of self in
             OnOk result (reading P.NUMBERS (kind_of message) out.new ≡ Ok message) }
     {
         if out.len() != confirmation_length() {
