@@ -2,30 +2,49 @@
 use Rattle.std.specs.Prelude.{ℕ, ◌+◌, ◌-◌, ◌*◌, ◌^◌, min, Ok, Err, Result}
 use Rattle.ring.specs.Faults.{number_of, place_of}
 use Rattle.ring.specs.declared.fault.Fault.{Fault}
+use Rattle.message.specs.Faults as message
+use Rattle.message.specs.declared.fault.Fault as message_fault
+use Rattle.exports.specs.declared.refusal.Refusal.{Refusal}
+use Rattle.exports.specs.declared.refusal.Refusal.TheVariants.{Ring, Message}
 
 -- a fault's number, from bit 56 on, and its place below
-abbrev pub fault_code : Fault → ℕ
-fault_code fault = number_of fault * 2 ^ 56 + min (place_of fault) (2 ^ 56 - 1)
+abbrev pub code_of : (number place : ℕ) → ℕ
+code_of number place = number * 2 ^ 56 + min place (2 ^ 56 - 1)
 
--- what is accepted by its own code, and else the fault
-abbrev pub answer_code : {X : Type 0} → (X → ℕ) → Result X Fault → ℕ
-answer_code code (Ok accepted) = code accepted
-answer_code code (Err fault) = fault_code fault
+abbrev pub fault_code : Fault → ℕ
+fault_code fault = code_of (number_of fault) (place_of fault)
+
+abbrev pub message_fault_code : message_fault.Fault → ℕ
+message_fault_code fault = code_of (message.number_of fault) (message.place_of fault)
+
+-- the fault that was passed up
+abbrev pub refusal_code : Refusal → ℕ
+refusal_code (Ring fault) = fault_code fault
+refusal_code (Message fault) = message_fault_code fault
+
+-- what is accepted by its own code, and else the fault by its
+abbrev pub answer_code : {X F : Type 0} → (X → ℕ) → (F → ℕ) → Result X F → ℕ
+answer_code code fault_of (Ok accepted) = code accepted
+answer_code code fault_of (Err fault) = fault_of fault
 
 -- an accepted value as itself
 abbrev pub value_code : Result ℕ Fault → ℕ
-value_code answer = answer_code (λ value. value) answer
+value_code answer = answer_code (λ value. value) fault_code answer
 
 -- a signal and a key bit
 abbrev pub pair_number : ℕ × ℕ → ℕ
 pair_number pair = 2 * pair.0 + pair.1
 
 abbrev pub pair_code : Result (ℕ × ℕ) Fault → ℕ
-pair_code answer = answer_code pair_number answer
+pair_code answer = answer_code pair_number fault_code answer
 
 -- an acceptance without a value
 abbrev pub done_code : Result (Unit {0}) Fault → ℕ
-done_code answer = answer_code (λ _. 0) answer
+done_code answer = answer_code (λ _. 0) fault_code answer
+
+-- the round of a message that is accepted
+abbrev pub round_code : Result ℕ Refusal → ℕ
+round_code answer = answer_code (λ round. round) refusal_code answer
 
 -- where no call can be made
 abbrev pub no_call : ℕ

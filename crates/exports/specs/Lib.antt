@@ -1,4 +1,7 @@
 pub mod Codes
 pub mod ByProfile
 pub mod Elements
+pub mod Packed
+pub mod Writing
+pub mod Reading
 pub mod Profiles

@@ -1,10 +1,10 @@
 // How an answer is told in one number of 64 bits.
 ghost use Rattle.std.specs.Prelude.{◌≡◌, ℕ};
-ghost use Rattle.exports.specs.Codes.{answer_code, fault_code, pair_number};
+ghost use Rattle.exports.specs.Codes.{answer_code, code_of, fault_code, message_fault_code, pair_number, refusal_code};
 
-use ring::Fault;
+use crate::refusal::Refusal;
 
-// The answer where no call can be made: for a profile, a ring or a seed that there is not.
+// The answer where no call can be made: for a profile, a ring, a width or a seed that there is not.
 pub(crate) const NO_CALL: u64 = 1 << 63;
 
 // The answer to what is accepted and gives no value.
@@ -54,17 +54,43 @@ impl Coded for (u8, u8) {
     }
 }
 
-// The fault's number, from bit 56 on, and its place below.
-impl Coded for Fault {
+// A fault's number, from bit 56 on, and its place below.
+fn code_of(number: u8, place: usize) -> u64
+    ensures { result ≡ code_of number place }
+{
+    u64::from(number) * (1 << 56) + (place as u64).min(LARGEST_PLACE)
+}
+
+impl Coded for ring::Fault {
     ghost code = { fault_code };
 
     fn code(self) -> u64 {
-        u64::from(self.number()) * (1 << 56) + (self.place() as u64).min(LARGEST_PLACE)
+        code_of(self.number(), self.place())
     }
 }
 
-impl<A: Coded> Coded for Result<A, Fault> {
-    ghost code = { answer_code A.code };
+impl Coded for message::Fault {
+    ghost code = { message_fault_code };
+
+    fn code(self) -> u64 {
+        code_of(self.number(), self.place())
+    }
+}
+
+// The fault that was passed up.
+impl Coded for Refusal {
+    ghost code = { refusal_code };
+
+    fn code(self) -> u64 {
+        match self {
+            Refusal::Ring(fault) => fault.code(),
+            Refusal::Message(fault) => fault.code(),
+        }
+    }
+}
+
+impl<A: Coded, F: Coded> Coded for Result<A, F> {
+    ghost code = { answer_code A.code F.code };
 
     fn code(self) -> u64 {
         match self {

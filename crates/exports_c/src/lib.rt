@@ -3,8 +3,14 @@
 
 ghost use Rattle.std.specs.Prelude.{◌≡◌, length};
 ghost use Rattle.keccak.specs.Sponge.{shake128};
+ghost use Rattle.message.specs.Messages.{answer, confirmation, offer};
+ghost use Rattle.exports.specs.Codes.{no_call};
 ghost use Rattle.exports.specs.Elements.{Multiplied, derive_tape_code, derive_tape_output};
 ghost use Rattle.exports.specs.Elements.{derive_seed_code, derive_seed_output};
+ghost use Rattle.exports.specs.Writing.{if_seed, write_code, write_output};
+ghost use Rattle.exports.specs.Packed.{pack_code, pack_output, unpack_code, unpack_numbers};
+ghost use Rattle.exports.specs.Reading.{read_offer_code, read_offer_seed, read_offer_values};
+ghost use Rattle.exports.specs.Reading.{read_answer_code, read_answer_values, read_answer_signals, read_confirmation_code};
 ghost use Rattle.exports.specs.Profiles.{round_code, recover_code, reconcile_code, read_code};
 
 #[unsafe(no_mangle)]
@@ -71,4 +77,93 @@ pub extern "C" fn exported_read(profile: u8, y: u32, signal: u8) -> u64
     ensures { result ≡ read_code profile y signal }
 {
     exports::exported_read(profile, y, signal)
+}
+
+#[unsafe(no_mangle)]
+pub extern "C" fn exported_pack(width: u32, numbers: &[u32], output: &mut [u8]) -> u64
+    ensures answers { result ≡ pack_code width numbers.now output.old }
+    ensures writes { output.new ≡ pack_output width numbers.now output.old }
+{
+    exports::exported_pack(width, numbers, output)
+}
+
+#[unsafe(no_mangle)]
+pub extern "C" fn exported_unpack(width: u32, bytes: &[u8], numbers: &mut [u32]) -> u64
+    ensures answers { result ≡ unpack_code width bytes.now numbers.old }
+    ensures reads { numbers.new ≡ unpack_numbers width bytes.now numbers.old }
+{
+    exports::exported_unpack(width, bytes, numbers)
+}
+
+#[unsafe(no_mangle)]
+pub extern "C" fn exported_write_offer(
+    profile: u8,
+    round: u32,
+    seed: &[u8],
+    values: &[u32],
+    output: &mut [u8],
+) -> u64
+    ensures answers { let message = offer round seed.now values.now in
+        result ≡ if_seed seed.now (write_code profile message output.old) no_call }
+    ensures writes { let message = offer round seed.now values.now in
+        output.new ≡ if_seed seed.now (write_output profile message output.old) output.old }
+{
+    exports::exported_write_offer(profile, round, seed, values, output)
+}
+
+#[unsafe(no_mangle)]
+pub extern "C" fn exported_write_answer(
+    profile: u8,
+    round: u32,
+    values: &[u32],
+    signals: &[u32],
+    output: &mut [u8],
+) -> u64
+    ensures answers { result ≡ write_code profile (answer round values.now signals.now) output.old }
+    ensures writes { output.new ≡ write_output profile (answer round values.now signals.now) output.old }
+{
+    exports::exported_write_answer(profile, round, values, signals, output)
+}
+
+#[unsafe(no_mangle)]
+pub extern "C" fn exported_write_confirmation(profile: u8, round: u32, output: &mut [u8]) -> u64
+    ensures answers { result ≡ write_code profile (confirmation round) output.old }
+    ensures writes { output.new ≡ write_output profile (confirmation round) output.old }
+{
+    exports::exported_write_confirmation(profile, round, output)
+}
+
+#[unsafe(no_mangle)]
+pub extern "C" fn exported_read_offer(
+    profile: u8,
+    message: &[u8],
+    seed: &mut [u8],
+    values: &mut [u32],
+) -> u64
+    ensures answers { result ≡ if_seed seed.old (read_offer_code profile message.now values.old) no_call }
+    ensures seed { seed.new ≡ if_seed seed.old (read_offer_seed profile message.now seed.old values.old) seed.old }
+    ensures values { values.new ≡ if_seed seed.old (read_offer_values profile message.now values.old) values.old }
+{
+    exports::exported_read_offer(profile, message, seed, values)
+}
+
+#[unsafe(no_mangle)]
+pub extern "C" fn exported_read_answer(
+    profile: u8,
+    message: &[u8],
+    values: &mut [u32],
+    signals: &mut [u32],
+) -> u64
+    ensures answers { result ≡ read_answer_code profile message.now values.old signals.old }
+    ensures values { values.new ≡ read_answer_values profile message.now values.old signals.old }
+    ensures signals { signals.new ≡ read_answer_signals profile message.now values.old signals.old }
+{
+    exports::exported_read_answer(profile, message, values, signals)
+}
+
+#[unsafe(no_mangle)]
+pub extern "C" fn exported_read_confirmation(profile: u8, message: &[u8]) -> u64
+    ensures { result ≡ read_confirmation_code profile message.now }
+{
+    exports::exported_read_confirmation(profile, message)
 }

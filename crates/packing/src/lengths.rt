@@ -33,7 +33,7 @@ impl Width {
 
     // The bytes that so many numbers take. Eight numbers take as many bytes as each has bits.
     #[tactic(auto, using(crate::proofs::PackedLengths::by_eights))]
-    pub(crate) fn packed_length(self, many: usize) -> usize
+    pub fn packed_length(self, many: usize) -> usize
         requires { many < 2 ^ 63 }
         ensures { result ≡ packed_length many self.bits }
     {
