@@ -35,7 +35,7 @@ fn pack(width: Width, numbers: &[u32], output: &mut [u8]) -> Result<(), Fault>
     ensures answer { result ≡ packing_answer width.bits numbers.now (length output.old) }
     ensures writes { output.new ≡ after result (packed width.bits numbers.now) output.old }
 {
-    if output.len() != width.packed_length(numbers.len()) {
+    if output.len() != width.packed_length(numbers) {
         return Err(Fault::WrongLength(4));
     }
     let fields = Fields::check(width, numbers).map_err(Fault::OutOfRange)?;

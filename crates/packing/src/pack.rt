@@ -33,7 +33,7 @@ impl<'a> Fields<'a> {
             OnOk result (unpacked w (length xs) output.new ≡ xs) }
     {
         let Fields { width, numbers } = self;
-        if output.len() != width.packed_length(numbers.len()) {
+        if output.len() != width.packed_length(numbers) {
             return Err(Fault::WrongLength(4));
         }
         let size = width.bits as usize;

@@ -17,7 +17,7 @@ impl Width {
         ensures packs { SpareClear self.bits (length numbers.old) bytes.now
             → OnOk result (packed self.bits numbers.new ≡ bytes.now) }
     {
-        if bytes.len() != self.packed_length(numbers.len()) {
+        if bytes.len() != self.packed_length(numbers) {
             return Err(Fault::WrongLength(1));
         }
         let size = self.bits as usize;
