@@ -13,9 +13,9 @@ use Rattle.message.specs.declared.fault.Fault.{Fault}
 use Rattle.message.specs.declared.fault.Fault.TheVariants.{SpareBit}
 use Rattle.message.specs.declared.kind.Kind.{Kind}
 use Rattle.message.specs.declared.kind.Kind.TheVariants.{Offer, Answer, Confirmation}
-use Rattle.message.specs.Messages.{Message, AreNumbers, head, section}
+use Rattle.message.specs.Messages.{Message, offer, answer, confirmation, AreNumbers, encoded, head, section}
 use Rattle.message.specs.MessageLaws.{IsWrittenFromItsParts, WrittenFrom}
-use Rattle.message.specs.Reading.{head_fault, head_of, parts, reading_fault, round_in, signals_at, spare_bit_fault, spare_fault, unless}
+use Rattle.message.specs.Reading.{answer_values_at, head_fault, head_of, offer_values_at, parts, reading_fault, round_in, seed_at, signals_at, spare_bit_fault, spare_fault, unless}
 use Rattle.message.specs.Sections.{stretch}
 use Rattle.message.specs.Shapes.{layout, section_fault, shape_fault}
 use Rattle.message.proofs.Heads.{head_back}
@@ -116,3 +116,16 @@ pub is_written_from_its_parts : (k : Numbers) → InRange k → IsWrittenFromIts
 is_written_from_its_parts k range kind bytes m fit read =
     let both = accepted (reading_fault k kind bytes) (parts k kind bytes) m read in
     subst (WrittenFrom k kind bytes) both.1 (parts_again k range bytes fit kind both.0)
+
+-- the same of what is handed out of a message
+module _ (k : Numbers) (range : InRange k) (bytes : List ℕ) (fit : AllFit 8 bytes) (round : ℕ) (is_round : round ≡ round_in (head_of bytes)) where
+  pub same_offer : (seed values : List ℕ) → reading_fault k Offer bytes ≡ None → seed ≡ stretch seed_at 16 bytes → values ≡ stretch offer_values_at (values_length k) bytes → encoded k (offer round seed (unpacked k.w k.n values)) ≡ bytes
+  same_offer seed values none is_seed are_values =
+      (λ j. encoded k (offer (is_round j) (is_seed j) (unpacked k.w k.n (are_values j)))) ∙ (parts_again k range bytes fit Offer none).same_bytes
+
+  pub same_answer : (values signals : List ℕ) → reading_fault k Answer bytes ≡ None → values ≡ stretch answer_values_at (values_length k) bytes → signals ≡ stretch (signals_at k) (signals_length k) bytes → encoded k (answer round (unpacked k.w k.n values) (unpacked k.signal_width k.n signals)) ≡ bytes
+  same_answer values signals none are_values are_signals =
+      (λ j. encoded k (answer (is_round j) (unpacked k.w k.n (are_values j)) (unpacked k.signal_width k.n (are_signals j)))) ∙ (parts_again k range bytes fit Answer none).same_bytes
+
+  pub same_confirmation : reading_fault k Confirmation bytes ≡ None → encoded k (confirmation round) ≡ bytes
+  same_confirmation none = (λ j. encoded k (confirmation (is_round j))) ∙ (parts_again k range bytes fit Confirmation none).same_bytes

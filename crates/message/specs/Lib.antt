@@ -3,6 +3,7 @@ pub mod Messages
 pub mod Sections
 pub mod Writing
 pub mod Lines
+pub mod Parts
 pub mod Shapes
 pub mod Reading
 pub mod MessageLaws

@@ -1,6 +1,8 @@
 // Reading messages back to their sections.
 ghost use Rattle.std.specs.Prelude.{◌≡◌, ◌+◌, ◌^◌, ◌<◌, ◌≤◌, IfOk, [], length};
 ghost use Rattle.std.specs.Result.{result_err};
+ghost use Rattle.packing.specs.Packing.{unpacked};
+ghost use Rattle.message.specs.Messages.{answer, confirmation, encoded, offer};
 ghost use Rattle.message.specs.Reading.{IsOffer, IsAnswer, IsConfirmation, head_fault, reading_fault, round_in, spare_bit_fault};
 ghost use Rattle.message.specs.Shapes.{IsStretch, section_fault, shape_fault};
 ghost use Rattle.message.specs.declared.kind.Kind.TheVariants.{Offer, Answer, Confirmation};
@@ -19,6 +21,8 @@ const SEED: usize = 16;
 pub fn read_offer<P: Profile>(message: &[u8]) -> Result<OfferSections<'_>, Fault>
     ensures fault { result_err result ≡ reading_fault P.NUMBERS Offer message.now }
     ensures sections { IfOk result (λ o. IsOffer P.NUMBERS message.entry o) }
+    ensures same_bytes { let k = P.NUMBERS in
+        IfOk result (λ o. encoded k (offer o.round o.seed.bytes.now (unpacked k.w k.n o.values.bytes.now)) ≡ message.now) }
 {
     let (head, at) = section(message, 0, HEAD)?;
     let (seed, at) = section(message, at, SEED)?;
@@ -37,6 +41,8 @@ pub fn read_offer<P: Profile>(message: &[u8]) -> Result<OfferSections<'_>, Fault
 pub fn read_answer<P: Profile>(message: &[u8]) -> Result<AnswerSections<'_>, Fault>
     ensures fault { result_err result ≡ reading_fault P.NUMBERS Answer message.now }
     ensures sections { IfOk result (λ a. IsAnswer P.NUMBERS message.entry a) }
+    ensures same_bytes { let k = P.NUMBERS in
+        IfOk result (λ a. encoded k (answer a.round (unpacked k.w k.n a.values.bytes.now) (unpacked k.signal_width k.n a.signals.bytes.now)) ≡ message.now) }
 {
     let (head, at) = section(message, 0, HEAD)?;
     let (values, at) = section(message, at, values_length::<P>())?;
@@ -56,6 +62,7 @@ pub fn read_answer<P: Profile>(message: &[u8]) -> Result<AnswerSections<'_>, Fau
 pub fn read_confirmation<P: Profile>(message: &[u8]) -> Result<ConfirmationSections<'_>, Fault>
     ensures fault { result_err result ≡ reading_fault P.NUMBERS Confirmation message.now }
     ensures sections { IfOk result (λ c. IsConfirmation message.entry c) }
+    ensures same_bytes { IfOk result (λ c. encoded P.NUMBERS (confirmation c.round) ≡ message.now) }
 {
     let (head, at) = section(message, 0, HEAD)?;
     end(message, at)?;

@@ -1,7 +1,7 @@
 // How a section is written into its place of a message.
 ghost use Rattle.std.specs.Prelude.{◌≡◌, ◌+◌, ◌^◌, ◌<◌, ◌≤◌, length};
 ghost use Rattle.profile.specs.Lengths.{packed_length};
-ghost use Rattle.packing.specs.Packing.{packed};
+ghost use Rattle.packing.specs.Packing.{AllFit, packed};
 ghost use Rattle.message.specs.Messages.{low_first, section};
 ghost use Rattle.message.specs.Sections.{written_at};
 
@@ -20,11 +20,13 @@ fn write_count(out: &mut [u8], at: usize, count: usize) -> usize
 }
 
 // Writes a section at `at`, its count and its bytes. The result is where the section ends.
+#[tactic(auto, using(packing::proofs::Splitting::bytes_fit))]
 pub(crate) fn write_section(out: &mut [u8], at: usize, contents: &[u8]) -> usize
     requires inside { at + 2 + length contents.now ≤ length out.old }
     requires counted { length contents.now < 2 ^ 16 }
     ensures end { result ≡ at + 2 + length contents.now }
     ensures writes { out.new ≡ written_at at (section contents.now) out.old }
+    ensures bytes { AllFit 8 contents.now }
 {
     let start = write_count(out, at, contents.len());
     let end = start + contents.len();

@@ -1,7 +1,9 @@
 // Writing messages from their parts.
-ghost use Rattle.std.specs.Prelude.{◌≡◌, OnOk, length};
+ghost use Rattle.std.specs.Prelude.{◌≡◌, OnOk, Ok, length};
 ghost use Rattle.ring.specs.Faults.{after};
-ghost use Rattle.message.specs.Messages.{encoded, offer, answer, confirmation};
+ghost use Rattle.message.specs.Messages.{encoded, kind_of};
+ghost use Rattle.message.specs.Parts.{offer_of, answer_of, confirmation_of};
+ghost use Rattle.message.specs.Reading.{reading};
 ghost use Rattle.message.specs.Writing.{write_answer};
 
 use crate::head::head;
@@ -17,10 +19,10 @@ use ring::Fault;
 impl Offer<'_> {
     // Writes the offer of these parts into `out`, or leaves it as it was.
     pub fn write<P: Profile>(self, out: &mut [u8]) -> Result<(), Fault>
-        ensures answer { let message = offer self.entry.round self.entry.seed.now self.entry.values.now in
-            result ≡ write_answer P.NUMBERS message (length out.old) }
-        ensures writes { let message = offer self.entry.round self.entry.seed.now self.entry.values.now in
-            out.new ≡ after result (encoded P.NUMBERS message) out.old }
+        ensures answer { result ≡ write_answer P.NUMBERS (offer_of self.entry) (length out.old) }
+        ensures writes { out.new ≡ after result (encoded P.NUMBERS (offer_of self.entry)) out.old }
+        ensures reads_back { let message = offer_of self.entry in
+            OnOk result (reading P.NUMBERS (kind_of message) out.new ≡ Ok message) }
     {
         let Offer {
             round,
@@ -44,10 +46,10 @@ impl Offer<'_> {
 impl Answer<'_> {
     // Writes the answer of these parts into `out`, or leaves it as it was.
     pub fn write<P: Profile>(self, out: &mut [u8]) -> Result<(), Fault>
-        ensures answer { let message = answer self.entry.round self.entry.values.now self.entry.signals.now in
-            result ≡ write_answer P.NUMBERS message (length out.old) }
-        ensures writes { let message = answer self.entry.round self.entry.values.now self.entry.signals.now in
-            out.new ≡ after result (encoded P.NUMBERS message) out.old }
+        ensures answer { result ≡ write_answer P.NUMBERS (answer_of self.entry) (length out.old) }
+        ensures writes { out.new ≡ after result (encoded P.NUMBERS (answer_of self.entry)) out.old }
+        ensures reads_back { let message = answer_of self.entry in
+            OnOk result (reading P.NUMBERS (kind_of message) out.new ≡ Ok message) }
     {
         let Answer {
             round,
@@ -65,9 +67,8 @@ impl Answer<'_> {
             return Err(Fault::WrongLength(4));
         }
         let values = Fields::check(values_width::<P>(), values).map_err(Fault::OutOfRange)?;
-        let signals = Fields::check(signals_width::<P>(), signals).map_err(|i| Fault::OutOfRange(
-            n + i,
-        ))?;
+        let width = signals_width::<P>();
+        let signals = Fields::check(width, signals).map_err(|i| Fault::OutOfRange(n + i))?;
         let at = write_section(out, 0, &head::<P>(Kind::Answer, round));
         let at = pack_section(out, at, values_length::<P>(), values);
         pack_section(out, at, signals_length::<P>(), signals);
@@ -78,8 +79,10 @@ impl Answer<'_> {
 impl Confirmation {
     // Writes the confirmation of this round into `out`, or leaves it as it was.
     pub fn write<P: Profile>(self, out: &mut [u8]) -> Result<(), Fault>
-        ensures answer { result ≡ write_answer P.NUMBERS (confirmation self.round) (length out.old) }
-        ensures writes { out.new ≡ after result (encoded P.NUMBERS (confirmation self.round)) out.old }
+        ensures answer { result ≡ write_answer P.NUMBERS (confirmation_of self) (length out.old) }
+        ensures writes { out.new ≡ after result (encoded P.NUMBERS (confirmation_of self)) out.old }
+        ensures reads_back { let message = confirmation_of self in
+            OnOk result (reading P.NUMBERS (kind_of message) out.new ≡ Ok message) }
     {
         if out.len() != confirmation_length() {
             return Err(Fault::WrongLength(4));

@@ -1,0 +1,18 @@
+use Rattle.std.proofs.Common.{◌≡◌, None, Option, sym, rules}
+use Rattle.packing.proofs.Splitting.{bytes_fit}
+use Rattle.profile.specs.Lengths.{values_length, signals_length}
+use Rattle.message.specs.declared.fault.Fault.{Fault}
+use Rattle.message.specs.declared.kind.Kind.TheVariants.{Answer}
+use Rattle.message.specs.Reading.{answer_values_at, head_of, reading_fault, round_in, signals_at}
+use Rattle.message.specs.Sections.{stretch}
+use Rattle.message.proofs.WrittenAgain.{same_answer}
+use Rattle.message.proofs.reading.read_answer.Goals as goal
+
+pub returns-clause-same_bytes : goal.returns-clause-same_bytes
+returns-clause-same_bytes g c =
+    let k = g.P.Profile.NUMBERS in
+    let none : ◌≡◌ {A = Option Fault} None (reading_fault k Answer c.args.message.now) = search rules in
+    let round : c.in_ok-round.round ≡ round_in (head_of c.args.message.now) = search rules in
+    let values : c.in_ok-values.values.bytes.now ≡ stretch answer_values_at (values_length k) c.args.message.now = search rules in
+    let signals : c.in_ok-signals.signals.bytes.now ≡ stretch (signals_at k) (signals_length k) c.args.message.now = search rules in
+    same_answer k g.met.P.Profile.lawful.in_range c.args.message.now (bytes_fit _ (λ i. (c.type_inv.message i).fits)) _ round _ _ (sym none) values signals

@@ -1,0 +1,18 @@
+use Rattle.std.proofs.Common.{◌≡◌, None, Option, sym, rules}
+use Rattle.packing.proofs.Splitting.{bytes_fit}
+use Rattle.profile.specs.Lengths.{values_length}
+use Rattle.message.specs.declared.fault.Fault.{Fault}
+use Rattle.message.specs.declared.kind.Kind.TheVariants.{Offer}
+use Rattle.message.specs.Reading.{head_of, offer_values_at, reading_fault, round_in, seed_at}
+use Rattle.message.specs.Sections.{stretch}
+use Rattle.message.proofs.WrittenAgain.{same_offer}
+use Rattle.message.proofs.reading.read_offer.Goals as goal
+
+pub returns-clause-same_bytes : goal.returns-clause-same_bytes
+returns-clause-same_bytes g c =
+    let k = g.P.Profile.NUMBERS in
+    let none : ◌≡◌ {A = Option Fault} None (reading_fault k Offer c.args.message.now) = search rules in
+    let round : c.in_ok-round.round ≡ round_in (head_of c.args.message.now) = search rules in
+    let seed : c.in_ok-seed.seed.bytes.now ≡ stretch seed_at 16 c.args.message.now = search rules in
+    let values : c.in_ok-values.values.bytes.now ≡ stretch offer_values_at (values_length k) c.args.message.now = search rules in
+    same_offer k g.met.P.Profile.lawful.in_range c.args.message.now (bytes_fit _ (λ i. (c.type_inv.message i).fits)) _ round _ _ (sym none) seed values
