@@ -9,7 +9,9 @@ mod profile;
 mod secret;
 mod sizes;
 
-pub use lengths::{answer_length, confirmation_length, key_length, offer_length, signals_length, values_length};
+pub use lengths::{
+    answer_length, confirmation_length, key_length, offer_length, signals_length, values_length,
+};
 pub use numbers::Numbers;
 pub use place::Place;
 pub use profile::Profile;

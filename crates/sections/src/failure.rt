@@ -1,0 +1,51 @@
+// Why a line's message is not shown.
+use hex::FromHexError;
+use std::alloc::AllocError;
+use std::io;
+
+#[derive(Debug, Drop)]
+pub enum Failure {
+    // the line is not a kind, a space and lower-case hexadecimal
+    Malformed,
+    // reading refuses the message
+    Refused(message::Fault),
+    // writing refuses the parts that were read
+    NotWritten(ring::Fault),
+    // or writes other bytes than were read
+    WrittenOtherwise,
+    OutOfMemory,
+    Io(io::Error),
+}
+
+impl From<FromHexError> for Failure {
+    fn from(error: FromHexError) -> Failure {
+        match error {
+            FromHexError::OutOfMemory => Failure::OutOfMemory,
+            _ => Failure::Malformed,
+        }
+    }
+}
+
+impl From<message::Fault> for Failure {
+    fn from(fault: message::Fault) -> Failure {
+        Failure::Refused(fault)
+    }
+}
+
+impl From<ring::Fault> for Failure {
+    fn from(fault: ring::Fault) -> Failure {
+        Failure::NotWritten(fault)
+    }
+}
+
+impl From<AllocError> for Failure {
+    fn from(_error: AllocError) -> Failure {
+        Failure::OutOfMemory
+    }
+}
+
+impl From<io::Error> for Failure {
+    fn from(error: io::Error) -> Failure {
+        Failure::Io(error)
+    }
+}

@@ -1,0 +1,54 @@
+// Whether the parts of a message give its bytes again.
+ghost use Rattle.std.specs.Prelude.{◌≡◌, OnOk};
+ghost use Rattle.message.specs.Messages.{encoded, offer, answer, confirmation};
+
+use crate::failure::Failure;
+use message::{Answer, Confirmation, Offer};
+use profile::Profile;
+use std::alloc::Global;
+
+fn check_same(written: &[u8], message: &[u8]) -> Result<(), Failure>
+    ensures { OnOk result (written.now ≡ message.now) }
+{
+    if written == message {
+        Ok(())
+    } else {
+        Err(Failure::WrittenOtherwise)
+    }
+}
+
+pub fn rewrite_offer<P: Profile>(
+    alloc: Global,
+    parts: Offer<'_>,
+    message: &[u8],
+) -> Result<(), Failure>
+    ensures { OnOk result (encoded P.NUMBERS (offer parts.entry.round parts.entry.seed.now parts.entry.values.now) ≡ message.now) }
+{
+    let mut written = vec![in alloc; 0u8; message.len()]?;
+    parts.write::<P>(&mut written)?;
+    check_same(&written, message)
+}
+
+pub fn rewrite_answer<P: Profile>(
+    alloc: Global,
+    parts: Answer<'_>,
+    message: &[u8],
+) -> Result<(), Failure>
+    ensures { OnOk result (encoded P.NUMBERS (answer parts.entry.round parts.entry.values.now parts.entry.signals.now) ≡ message.now) }
+{
+    let mut written = vec![in alloc; 0u8; message.len()]?;
+    parts.write::<P>(&mut written)?;
+    check_same(&written, message)
+}
+
+pub fn rewrite_confirmation<P: Profile>(
+    alloc: Global,
+    parts: Confirmation,
+    message: &[u8],
+) -> Result<(), Failure>
+    ensures { OnOk result (encoded P.NUMBERS (confirmation parts.round) ≡ message.now) }
+{
+    let mut written = vec![in alloc; 0u8; message.len()]?;
+    parts.write::<P>(&mut written)?;
+    check_same(&written, message)
+}
