@@ -202,9 +202,10 @@ def lines():
     # Cut in each section and each count.
     rows += [("offer", offer[:length]) for length in (0, 1, 2, 8, 9, 10, 11, 26, 29)]
     rows += [("answer", answer[:length]) for length in (13, 16)]
-    # Each count off by one.
+    # Each count off by one, and the upper byte of one.
     rows += [("offer", with_byte(offer, offset, offer[offset] + 1)) for offset in (0, 9, 27)]
     rows += [("answer", with_byte(answer, offset, answer[offset] - 1)) for offset in (9, 14)]
+    rows += [("offer", with_byte(offer, 1, 1))]
     # One byte more.
     rows += [(kind, message + b"\0") for kind, message in three.items()]
     # Another byte for the kind, the numbers or the reconciler. Where the two name a house profile, that one is read by: the offer has too
@@ -214,6 +215,8 @@ def lines():
     # Each spare bit, and one behind a wrong kind.
     rows += [("answer", with_byte(answer, 16, answer[16] + 2**bit)) for bit in range(4, 8)]
     rows += [("answer", with_byte(with_byte(answer, 16, 0x82), 2, 1))]
+    # All three bytes of the head wrong.
+    rows += [("offer", with_byte(with_byte(with_byte(offer, 2, 2), 3, 0), 4, 3))]
     # Each kind read as each other.
     rows += [(kind, message) for kind in KINDS for other, message in three.items() if kind != other]
     # S and W: cut, one byte more, another kind.
@@ -416,10 +419,10 @@ def check_lines():
         output = printed(f"{kind} {message.hex()}")
         refused += [tuple(map(int, output[0].split(" fault ")[1].split(" at ")))] if " refused: layer 2," in output[0] else []
     cut = [0, 0, 2, 2, 9, 9, 11, 11, 29, 11, 16]
-    counts = [0, 9, 27, 9, 14]
+    counts = [0, 9, 27, 9, 14, 0]
     more = [32, 17, 9]
     assert refused == (
-        [(7, place) for place in cut + counts + more] + [(8, 2), (8, 3), (8, 4), (7, 27)] + [(9, 16)] * 4 + [(8, 2)]
+        [(7, place) for place in cut + counts + more] + [(8, 2), (8, 3), (8, 4), (7, 27)] + [(9, 16)] * 4 + [(8, 2)] * 2
         + [(7, 9)] * 6 + [(7, 29), (7, 525), (7, 9)]
     )
 
