@@ -43,8 +43,8 @@ abbrev pub done_code : Result (Unit {0}) Fault → ℕ
 done_code answer = answer_code (λ _. 0) fault_code answer
 
 -- the round of a message that is accepted
-abbrev pub round_code : Result ℕ Refusal → ℕ
-round_code answer = answer_code (λ round. round) refusal_code answer
+abbrev pub reading_code : Result ℕ Refusal → ℕ
+reading_code answer = answer_code (λ round. round) refusal_code answer
 
 -- where no call can be made
 abbrev pub no_call : ℕ

@@ -1,29 +1,19 @@
 -- What the exported functions on packed numbers answer and leave.
 use Rattle.std.specs.Prelude.{ℕ, if◌then◌else◌, ◌&&◌, ◌==◌, List, length, nat_le, Ok, Result}
-use Rattle.ring.specs.Faults.{after, checked}
-use Rattle.ring.specs.declared.fault.Fault.{Fault}
-use Rattle.ring.specs.declared.fault.Fault.TheVariants.{WrongLength, OutOfRange}
-use Rattle.profile.specs.Lengths.{packed_length}
-use Rattle.packing.specs.Packing.{front_fitting, packed, unpacked, unpack_answer}
+use Rattle.ring.specs.Faults.{after}
+use Rattle.packing.specs.Packing.{pack_numbers_answer, packed, unpacked, unpack_answer}
 use Rattle.exports.specs.Codes.{done_code, no_call}
-
--- packing numbers, some of which may not fit, into so much room
-abbrev pub packing_answer : (width : ℕ) → List ℕ → (room : ℕ) → Result (Unit {0}) Fault
-packing_answer width numbers room =
-    checked (room == packed_length (length numbers) width) (WrongLength 4)
-    (checked (nat_le (length numbers) (front_fitting width numbers)) (OutOfRange (front_fitting width numbers))
-    (Ok tt))
 
 -- what is said of a width that there is, or else `other`
 abbrev pub if_width : {X : Type 0} → (width : ℕ) → X → X → X
 if_width width says other = if nat_le 1 width && nat_le width 16 then says else other
 
 abbrev pub pack_code : (width : ℕ) → (numbers output : List ℕ) → ℕ
-pack_code width numbers output = if_width width (done_code (packing_answer width numbers (length output))) no_call
+pack_code width numbers output = if_width width (done_code (pack_numbers_answer width numbers (length output))) no_call
 
 abbrev pub pack_output : (width : ℕ) → (numbers output : List ℕ) → List ℕ
 pack_output width numbers output =
-    if_width width (after (packing_answer width numbers (length output)) (packed width numbers) output) output
+    if_width width (after (pack_numbers_answer width numbers (length output)) (packed width numbers) output) output
 
 abbrev pub unpack_code : (width : ℕ) → (bytes numbers : List ℕ) → ℕ
 unpack_code width bytes numbers = if_width width (done_code (unpack_answer width bytes (length numbers))) no_call

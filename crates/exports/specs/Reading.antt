@@ -11,7 +11,7 @@ use Rattle.message.specs.declared.kind.Kind.TheVariants as kinds
 use Rattle.exports.specs.declared.refusal.Refusal.{Refusal}
 use Rattle.exports.specs.declared.refusal.Refusal.TheVariants as refusals
 use Rattle.exports.specs.ByProfile.{by_profile}
-use Rattle.exports.specs.Codes.{round_code, no_call}
+use Rattle.exports.specs.Codes.{reading_code, no_call}
 
 -- ---- what reading gives, with a profile's numbers
 
@@ -46,9 +46,9 @@ confirmation_read k message = passed_up (reading k kinds.Confirmation message)
 
 -- ---- what is told and left of them
 
-abbrev pub round_answer : Result Message Refusal → Result ℕ Refusal
-round_answer (Ok message) = Ok (round_of message)
-round_answer (Err refusal) = Err refusal
+abbrev pub round_told : Result Message Refusal → Result ℕ Refusal
+round_told (Ok message) = Ok (round_of message)
+round_told (Err refusal) = Err refusal
 
 abbrev pub seed_of : Message → List ℕ
 seed_of (offer round seed values) = seed
@@ -74,7 +74,7 @@ part_after part (Err refusal) buffer = buffer
 
 abbrev pub read_offer_code : (profile : ℕ) → (message values : List ℕ) → ℕ
 read_offer_code profile message values =
-    by_profile (λ k _. round_code (round_answer (offer_read k message (length values)))) no_call profile
+    by_profile (λ k _. reading_code (round_told (offer_read k message (length values)))) no_call profile
 
 abbrev pub read_offer_seed : (profile : ℕ) → (message seed values : List ℕ) → List ℕ
 read_offer_seed profile message seed values =
@@ -86,7 +86,7 @@ read_offer_values profile message values =
 
 abbrev pub read_answer_code : (profile : ℕ) → (message values signals : List ℕ) → ℕ
 read_answer_code profile message values signals =
-    by_profile (λ k _. round_code (round_answer (answer_read k message (length values) (length signals)))) no_call profile
+    by_profile (λ k _. reading_code (round_told (answer_read k message (length values) (length signals)))) no_call profile
 
 abbrev pub read_answer_values : (profile : ℕ) → (message values signals : List ℕ) → List ℕ
 read_answer_values profile message values signals =
@@ -98,4 +98,4 @@ read_answer_signals profile message values signals =
 
 abbrev pub read_confirmation_code : (profile : ℕ) → (message : List ℕ) → ℕ
 read_confirmation_code profile message =
-    by_profile (λ k _. round_code (round_answer (confirmation_read k message))) no_call profile
+    by_profile (λ k _. reading_code (round_told (confirmation_read k message))) no_call profile

@@ -1,12 +1,9 @@
 // Packed numbers.
-ghost use Rattle.std.specs.Prelude.{◌≡◌, length};
-ghost use Rattle.ring.specs.Faults.{after};
-ghost use Rattle.packing.specs.Packing.{packed};
-ghost use Rattle.exports.specs.Packed.{packing_answer, pack_code, pack_output, unpack_code, unpack_numbers};
+ghost use Rattle.std.specs.Prelude.{◌≡◌};
+ghost use Rattle.exports.specs.Packed.{pack_code, pack_output, unpack_code, unpack_numbers};
 
 use crate::codes::{Coded, NO_CALL};
-use packing::{Fields, Width};
-use ring::Fault;
+use packing::Width;
 
 // Packs numbers of so many bits, if there is such a width.
 pub fn exported_pack(width: u32, numbers: &[u32], output: &mut [u8]) -> u64
@@ -16,7 +13,7 @@ pub fn exported_pack(width: u32, numbers: &[u32], output: &mut [u8]) -> u64
     let Some(width) = Width::new(width) else {
         return NO_CALL;
     };
-    pack(width, numbers, output).code()
+    width.pack(numbers, output).code()
 }
 
 // Unpacks as many numbers as there is room for.
@@ -28,16 +25,4 @@ pub fn exported_unpack(width: u32, bytes: &[u8], numbers: &mut [u32]) -> u64
         return NO_CALL;
     };
     width.unpack(bytes, numbers).code()
-}
-
-// A wrong length is found before a number that does not fit.
-fn pack(width: Width, numbers: &[u32], output: &mut [u8]) -> Result<(), Fault>
-    ensures answer { result ≡ packing_answer width.bits numbers.now (length output.old) }
-    ensures writes { output.new ≡ after result (packed width.bits numbers.now) output.old }
-{
-    if output.len() != width.packed_length(numbers) {
-        return Err(Fault::WrongLength(4));
-    }
-    let fields = Fields::check(width, numbers).map_err(Fault::OutOfRange)?;
-    fields.pack(output)
 }

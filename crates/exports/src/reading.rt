@@ -3,7 +3,7 @@
 ghost use Rattle.std.specs.Prelude.{◌≡◌, ◌==◌, length};
 ghost use Rattle.exports.specs.Codes.{no_call};
 ghost use Rattle.exports.specs.Writing.{if_seed};
-ghost use Rattle.exports.specs.Reading.{room_answer, offer_read, answer_read, confirmation_read, round_answer, part_after, seed_of, values_of, signals_of};
+ghost use Rattle.exports.specs.Reading.{room_answer, offer_read, answer_read, confirmation_read, round_told, part_after, seed_of, values_of, signals_of};
 ghost use Rattle.exports.specs.Reading.{read_offer_code, read_offer_seed, read_offer_values};
 ghost use Rattle.exports.specs.Reading.{read_answer_code, read_answer_values, read_answer_signals, read_confirmation_code};
 
@@ -11,17 +11,15 @@ use crate::by_index::by_index;
 use crate::codes::{Coded, NO_CALL};
 use crate::refusal::Refusal;
 use packing::{signals_width, values_width};
-use profile::Profile;
+use profile::{Profile, SEED_LENGTH};
 use ring::Fault;
-
-const SEED: usize = 16;
 
 pub fn exported_read_offer(profile: u8, message: &[u8], seed: &mut [u8], values: &mut [u32]) -> u64
     ensures answers { result ≡ if_seed seed.old (read_offer_code profile message.now values.old) no_call }
     ensures seed { seed.new ≡ if_seed seed.old (read_offer_seed profile message.now seed.old values.old) seed.old }
     ensures values { values.new ≡ if_seed seed.old (read_offer_values profile message.now values.old) values.old }
 {
-    if seed.len() != SEED {
+    if seed.len() != SEED_LENGTH {
         return NO_CALL;
     }
     by_index!(profile, read_offer::<P>(message, seed, values).code())
@@ -54,7 +52,7 @@ fn read_offer<P: Profile>(
     values: &mut [u32],
 ) -> Result<u32, Refusal>
     requires { length seed.old ≡ 16 }
-    ensures answer { result ≡ round_answer (offer_read P.NUMBERS message.now (length values.old)) }
+    ensures answer { result ≡ round_told (offer_read P.NUMBERS message.now (length values.old)) }
     ensures seed { let answer = offer_read P.NUMBERS message.now (length values.old) in
         seed.new ≡ part_after seed_of answer seed.old }
     ensures values { let answer = offer_read P.NUMBERS message.now (length values.old) in
@@ -77,7 +75,7 @@ fn read_answer<P: Profile>(
     signals: &mut [u32],
 ) -> Result<u32, Refusal>
     ensures answer { let answer = answer_read P.NUMBERS message.now (length values.old) (length signals.old) in
-        result ≡ round_answer answer }
+        result ≡ round_told answer }
     ensures values { let answer = answer_read P.NUMBERS message.now (length values.old) (length signals.old) in
         values.new ≡ part_after values_of answer values.old }
     ensures signals { let answer = answer_read P.NUMBERS message.now (length values.old) (length signals.old) in
@@ -98,7 +96,7 @@ fn read_answer<P: Profile>(
 // The round of a confirmation.
 #[tactic(auto, unfolding(crate::specs::Reading::confirmation_read))]
 fn read_confirmation<P: Profile>(message: &[u8]) -> Result<u32, Refusal>
-    ensures { result ≡ round_answer (confirmation_read P.NUMBERS message.now) }
+    ensures { result ≡ round_told (confirmation_read P.NUMBERS message.now) }
 {
     Ok(message::read_confirmation::<P>(message)?.round)
 }

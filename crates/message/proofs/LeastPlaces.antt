@@ -7,11 +7,11 @@ use Rattle.message.specs.Faults.{place_of}
 use Rattle.message.proofs.Rows.{both_none, none_from_cond}
 use Rattle.message.specs.declared.fault.Fault.{Fault}
 use Rattle.message.specs.declared.fault.Fault.TheVariants.{WrongShape}
-use Rattle.message.specs.MessageLaws.{IsWrongAt, RefusesAtTheLeast, RefusesWhereWrong}
+use Rattle.message.specs.MessageLaws.{ShapeIsWrongAt, RefusesAtTheLeast, AcceptsOnlyRightShapes}
 use Rattle.message.specs.Shapes.{is_counted, section_fault, shape_fault}
 
 -- each place that is wrong is at or after the start
-after_start : (at : ℕ) (layout message : List ℕ) (place : ℕ) → IsWrongAt at layout message place → at ≤ place
+after_start : (at : ℕ) (layout message : List ℕ) (place : ℕ) → ShapeIsWrongAt at layout message place → at ≤ place
 after_start at [] message place wrong = omega (arith, wrong.0)
 after_start at (many ∷ rest) message place (inl wrong) = omega (arith, wrong.0)
 after_start at (many ∷ rest) message place (inr (inl wrong)) = omega (arith, wrong.0)
@@ -45,17 +45,17 @@ same_place : (a b : ℕ) → ◌≡◌ {A = Option Fault} (Some (WrongShape a)) 
 unfolding place_in
 same_place a b e = ap place_in e
 
-pub refuses_where_wrong : RefusesWhereWrong
-refuses_where_wrong at [] message place none wrong =
+pub accepts_only_right_shapes : AcceptsOnlyRightShapes
+accepts_only_right_shapes at [] message place none wrong =
     omega (arith, wrong.1, leb-true _ _ (none_from_cond (leb (length message) at) (WrongShape at) None none).0)
-refuses_where_wrong at (many ∷ rest) message place none wrong =
+accepts_only_right_shapes at (many ∷ rest) message place none wrong =
     let both = both_none (section_fault at many message) (shape_fault (at + 2 + many) rest message) none in
     elim (section_cases at many message) [
       | right counted fits _ ↦ elim wrong [
         | inl count ↦ clash (is_counted at many message) counted count.1
         | inr other ↦ elim other [
           | inl short ↦ omega (arith, short.1, fits)
-          | inr later ↦ refuses_where_wrong (at + 2 + many) rest message place both.1 later
+          | inr later ↦ accepts_only_right_shapes (at + 2 + many) rest message place both.1 later
         ]
       ]
       | cut _ _ some ↦ none-some (WrongShape (at + 2)) (sym both.0 ∙ some)

@@ -5,6 +5,8 @@ pub mod ReadBack
 pub mod WrittenAgain
 pub mod Alike
 pub mod LeastPlaces
+pub mod Accepting
+pub mod SpareLaws
 pub mod Laws
 pub mod Lines
 pub mod SpareBits

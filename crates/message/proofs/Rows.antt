@@ -1,5 +1,5 @@
 -- Sections in a row of bytes: one that was written there is found, and one that is found was written there.
-use Rattle.std.proofs.Common.{◌≡◌, ℕ, ◌+◌, ◌^◌, ◌<◌, ◌≤◌, Bool, true, false, cond, leb, List, [], ◌++◌, length, take, drop, Some, None, Option, sym, refl, ap, ◌∙◌, arith}
+use Rattle.std.proofs.Common.{eqb, ◌≡◌, ℕ, ◌+◌, ◌^◌, ◌<◌, ◌≤◌, Bool, true, false, cond, leb, List, [], ◌++◌, length, take, drop, Some, None, Option, sym, refl, ap, ◌∙◌, arith}
 use Rattle.std.specs.Option.{option_or}
 use Rattle.std.proofs.lemmas.Bool.{cond-true, eqb-true, eq-eqb, leb-true, le-leb, and_parts, and_from}
 use Rattle.std.proofs.lemmas.List.{append_assoc, length-append, length-take-le, length-drop, take_at, drop_at, drop-drop, take-append-drop, drop_all}
@@ -77,7 +77,7 @@ module _ (message : List ℕ) (at many : ℕ) (fit : AllFit 8 message) (right : 
   count_bytes : stretch at 2 message ≡ low_first 2 many
   count_bytes =
       let two = stretch at 2 message in
-      let value : number 8 two ≡ many = eqb-true _ _ (and_parts _ _ tests.0).1 in
+      let value : number 8 two ≡ many = eqb-true (number 8 two) many (and_parts (leb (at + 2) (length message)) (eqb (number 8 two) many) tests.0).1 in
       let long : length two ≡ 2 = length-take-le 2 (drop at message) (omega (arith, length-drop at message, room)) in
       let fits : AllFit 8 two = All-take (λ b. b < 2 ^ 8) 2 (drop at message) (All-drop (λ b. b < 2 ^ 8) at message fit) in
       sym (digits_number 8 two fits) ∙ (λ j. digits 8 (long j) (value j))

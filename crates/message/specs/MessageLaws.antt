@@ -1,12 +1,15 @@
 -- What is proved of messages as such, of every profile's numbers.
-use Rattle.std.specs.Prelude.{◌≡◌, ℕ, ◌+◌, ◌<◌, ◌⊎◌, List, [], ◌∷◌, length, Ok, Some, None, false}
+use Rattle.std.specs.Prelude.{◌≡◌, ℕ, ◌+◌, ◌*◌, ◌/◌, ◌<◌, ◌≤◌, ◌⊎◌, List, [], ◌∷◌, length, Ok, Some, None, false}
 use Rattle.profile.specs.Laws.{InRange}
 use Rattle.profile.specs.declared.numbers.Numbers.{Numbers}
+use Rattle.profile.specs.Lengths.{packed_length}
 use Rattle.packing.specs.Packing.{AllFit}
-use Rattle.message.specs.declared.fault.Fault.TheVariants.{WrongShape}
+use Rattle.packing.specs.PackingLaws.{SpareClear, bit_of}
+use Rattle.message.specs.declared.fault.Fault.TheVariants.{WrongShape, SpareBit}
 use Rattle.message.specs.declared.kind.Kind.{Kind}
 use Rattle.message.specs.Messages.{Message, HasLawfulParts, IsRound, encoded, kind_of, round_of}
-use Rattle.message.specs.Reading.{reading}
+use Rattle.message.specs.Reading.{reading, spare_bit_fault}
+use Rattle.message.specs.Writing.{message_length, write_answer}
 use Rattle.message.specs.Shapes.{is_counted, shape_fault}
 
 -- a written message reads back to its parts
@@ -34,20 +37,34 @@ TellsKindProfileAndRound = (k l : Numbers) (m o : Message) → IsRound (round_of
 
 -- the places at which a message is not a row of sections that begins at an offset: a count that is missing or wrong, the
 -- start of contents that are cut short, the first byte after the last section
-abbrev pub IsWrongAt : (at : ℕ) → List ℕ → List ℕ → ℕ → Type 0
-IsWrongAt at [] message place = (place ≡ at) × (at < length message)
-IsWrongAt at (many ∷ rest) message place = ((place ≡ at) × (is_counted at many message ≡ false)) ⊎ ((place ≡ at + 2) × (length message < at + 2 + many)) ⊎ IsWrongAt (at + 2 + many) rest message place
+abbrev pub ShapeIsWrongAt : (at : ℕ) → List ℕ → List ℕ → ℕ → Type 0
+ShapeIsWrongAt at [] message place = (place ≡ at) × (at < length message)
+ShapeIsWrongAt at (many ∷ rest) message place = ((place ≡ at) × (is_counted at many message ≡ false)) ⊎ ((place ≡ at + 2) × (length message < at + 2 + many)) ⊎ ShapeIsWrongAt (at + 2 + many) rest message place
 
 -- a refusal by shape names the least of these places, and without one there is none
 abbrev pub RefusesAtTheLeast : Type 0
-RefusesAtTheLeast = (at : ℕ) (layout message : List ℕ) (place : ℕ) → shape_fault at layout message ≡ Some (WrongShape place) → IsWrongAt at layout message place × ((sooner : ℕ) → sooner < place → IsWrongAt at layout message sooner → ⊥)
+RefusesAtTheLeast = (at : ℕ) (layout message : List ℕ) (place : ℕ) → shape_fault at layout message ≡ Some (WrongShape place) → ShapeIsWrongAt at layout message place × ((sooner : ℕ) → sooner < place → ShapeIsWrongAt at layout message sooner → ⊥)
 
-abbrev pub RefusesWhereWrong : Type 0
-RefusesWhereWrong = (at : ℕ) (layout message : List ℕ) (place : ℕ) → shape_fault at layout message ≡ None → IsWrongAt at layout message place → ⊥
+abbrev pub AcceptsOnlyRightShapes : Type 0
+AcceptsOnlyRightShapes = (at : ℕ) (layout message : List ℕ) (place : ℕ) → shape_fault at layout message ≡ None → ShapeIsWrongAt at layout message place → ⊥
+
+-- the spare bits of n numbers of w bits in bytes at an offset: none is set where there is no fault, and else the fault is at
+-- the byte of each that is set
+pub record TellsSpareBits (n w at : ℕ) (bytes : List ℕ) : Type 0 where
+  pub none_is_set : spare_bit_fault n w at (packed_length n w) bytes ≡ None → SpareClear w n bytes
+  pub none_is_refused : SpareClear w n bytes → spare_bit_fault n w at (packed_length n w) bytes ≡ None
+  pub at_its_byte : (j : ℕ) → n * w ≤ j → (bit_of bytes j ≡ 0 → ⊥) → spare_bit_fault n w at (packed_length n w) bytes ≡ Some (SpareBit (at + j / 8))
+
+-- lawful parts are written, into as many bytes as a message of the kind has
+pub record WritesLawfulParts (k : Numbers) (m : Message) : Type 0 where
+  pub length : length (encoded k m) ≡ message_length k (kind_of m)
+  pub accepted : write_answer k m (message_length k (kind_of m)) ≡ Ok tt
 
 pub record MessageLaws : Type 0 where
+  pub writes_lawful_parts : (k : Numbers) → InRange k → (m : Message) → HasLawfulParts k m → WritesLawfulParts k m
   pub reads_back : (k : Numbers) → InRange k → ReadsBack k
   pub is_written_from_its_parts : (k : Numbers) → InRange k → IsWrittenFromItsParts k
   pub tells_kind_profile_and_round : TellsKindProfileAndRound
   pub refuses_at_the_least : RefusesAtTheLeast
-  pub refuses_where_wrong : RefusesWhereWrong
+  pub accepts_only_right_shapes : AcceptsOnlyRightShapes
+  pub tells_spare_bits : (n w at : ℕ) (bytes : List ℕ) → AllFit 8 bytes → length bytes ≡ packed_length n w → TellsSpareBits n w at bytes

@@ -96,3 +96,17 @@ pub record IsAnswer (k : Numbers) (message : Bor (List ℕ)) (a : AnswerSections
 pub record IsConfirmation (message : Bor (List ℕ)) (c : ConfirmationSections) : Type 0 where
   pub round : c.round ≡ round_in (head_of message.now)
   pub head : IsStretch message c.head 2 7
+
+-- the parts that the sections hold, where they are handed out
+
+abbrev pub read_as_offer : Numbers → Result OfferSections Fault → Result Message Fault
+read_as_offer k (Ok o) = Ok (offer o.round o.seed.bytes.now (unpacked k.w k.n o.values.bytes.now))
+read_as_offer k (Err fault) = Err fault
+
+abbrev pub read_as_answer : Numbers → Result AnswerSections Fault → Result Message Fault
+read_as_answer k (Ok a) = Ok (answer a.round (unpacked k.w k.n a.values.bytes.now) (unpacked k.signal_width k.n a.signals.bytes.now))
+read_as_answer k (Err fault) = Err fault
+
+abbrev pub read_as_confirmation : Numbers → Result ConfirmationSections Fault → Result Message Fault
+read_as_confirmation k (Ok c) = Ok (confirmation c.round)
+read_as_confirmation k (Err fault) = Err fault

@@ -8,7 +8,7 @@ mod line;
 mod parts;
 mod reading;
 mod section;
-mod sections;
+mod section_writing;
 mod theorems;
 mod writing;
 

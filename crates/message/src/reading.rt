@@ -3,7 +3,7 @@ ghost use Rattle.std.specs.Prelude.{◌≡◌, ◌+◌, ◌^◌, ◌<◌, ◌≤
 ghost use Rattle.std.specs.Result.{result_err};
 ghost use Rattle.packing.specs.Packing.{unpacked};
 ghost use Rattle.message.specs.Messages.{answer, confirmation, encoded, offer};
-ghost use Rattle.message.specs.Reading.{IsOffer, IsAnswer, IsConfirmation, head_fault, reading_fault, round_in, spare_bit_fault};
+ghost use Rattle.message.specs.Reading.{IsOffer, IsAnswer, IsConfirmation, head_fault, read_as_offer, read_as_answer, read_as_confirmation, reading, reading_fault, round_in, spare_bit_fault};
 ghost use Rattle.message.specs.Shapes.{IsStretch, section_fault, shape_fault};
 ghost use Rattle.message.specs.declared.kind.Kind.TheVariants.{Offer, Answer, Confirmation};
 ghost use Rattle.profile.specs.Lengths.{signals_length};
@@ -11,23 +11,20 @@ ghost use Rattle.profile.specs.Lengths.{signals_length};
 use crate::fault::Fault;
 use crate::kind::Kind;
 use crate::section::{AnswerSections, ConfirmationSections, OfferSections, Section};
-use profile::{Profile, signals_length, values_length};
-
-const HEAD: usize = 7;
-
-const SEED: usize = 16;
+use profile::{HEAD_LENGTH, Profile, SEED_LENGTH, signals_length, values_length};
 
 // Reads a message as an offer.
 pub fn read_offer<P: Profile>(message: &[u8]) -> Result<OfferSections<'_>, Fault>
+    ensures answer { read_as_offer P.NUMBERS result ≡ reading P.NUMBERS Offer message.now }
     ensures fault { result_err result ≡ reading_fault P.NUMBERS Offer message.now }
     ensures sections { IfOk result (λ o. IsOffer P.NUMBERS message.entry o) }
-    ensures same_bytes { let k = P.NUMBERS in
+    ensures writes_back { let k = P.NUMBERS in
         IfOk result (λ o. encoded k (offer o.round o.seed.bytes.now (unpacked k.w k.n o.values.bytes.now)) ≡ message.now) }
 {
-    let (head, at) = section(message, 0, HEAD)?;
-    let (seed, at) = section(message, at, SEED)?;
-    let (values, at) = section(message, at, values_length::<P>())?;
-    end(message, at)?;
+    let (head, at) = read_section(message, 0, HEAD_LENGTH)?;
+    let (seed, at) = read_section(message, at, SEED_LENGTH)?;
+    let (values, at) = read_section(message, at, values_length::<P>())?;
+    check_end(message, at)?;
     let round = read_head::<P>(Kind::Offer, head.bytes)?;
     Ok(OfferSections {
         round,
@@ -39,15 +36,16 @@ pub fn read_offer<P: Profile>(message: &[u8]) -> Result<OfferSections<'_>, Fault
 
 // Reads a message as an answer.
 pub fn read_answer<P: Profile>(message: &[u8]) -> Result<AnswerSections<'_>, Fault>
+    ensures answer { read_as_answer P.NUMBERS result ≡ reading P.NUMBERS Answer message.now }
     ensures fault { result_err result ≡ reading_fault P.NUMBERS Answer message.now }
     ensures sections { IfOk result (λ a. IsAnswer P.NUMBERS message.entry a) }
-    ensures same_bytes { let k = P.NUMBERS in
+    ensures writes_back { let k = P.NUMBERS in
         IfOk result (λ a. encoded k (answer a.round (unpacked k.w k.n a.values.bytes.now) (unpacked k.signal_width k.n a.signals.bytes.now)) ≡ message.now) }
 {
-    let (head, at) = section(message, 0, HEAD)?;
-    let (values, at) = section(message, at, values_length::<P>())?;
-    let (signals, at) = section(message, at, signals_length::<P>())?;
-    end(message, at)?;
+    let (head, at) = read_section(message, 0, HEAD_LENGTH)?;
+    let (values, at) = read_section(message, at, values_length::<P>())?;
+    let (signals, at) = read_section(message, at, signals_length::<P>())?;
+    check_end(message, at)?;
     let round = read_head::<P>(Kind::Answer, head.bytes)?;
     check_spare_bits::<P>(signals.offset, signals.bytes)?;
     Ok(AnswerSections {
@@ -60,18 +58,23 @@ pub fn read_answer<P: Profile>(message: &[u8]) -> Result<AnswerSections<'_>, Fau
 
 // Reads a message as a confirmation.
 pub fn read_confirmation<P: Profile>(message: &[u8]) -> Result<ConfirmationSections<'_>, Fault>
+    ensures answer { read_as_confirmation P.NUMBERS result ≡ reading P.NUMBERS Confirmation message.now }
     ensures fault { result_err result ≡ reading_fault P.NUMBERS Confirmation message.now }
     ensures sections { IfOk result (λ c. IsConfirmation message.entry c) }
-    ensures same_bytes { IfOk result (λ c. encoded P.NUMBERS (confirmation c.round) ≡ message.now) }
+    ensures writes_back { IfOk result (λ c. encoded P.NUMBERS (confirmation c.round) ≡ message.now) }
 {
-    let (head, at) = section(message, 0, HEAD)?;
-    end(message, at)?;
+    let (head, at) = read_section(message, 0, HEAD_LENGTH)?;
+    check_end(message, at)?;
     let round = read_head::<P>(Kind::Confirmation, head.bytes)?;
     Ok(ConfirmationSections { round, head })
 }
 
 // The section of so many bytes whose count is at `at`, and where it ends.
-fn section<'m>(message: &'m [u8], at: usize, many: usize) -> Result<(Section<'m>, usize), Fault>
+fn read_section<'m>(
+    message: &'m [u8],
+    at: usize,
+    many: usize,
+) -> Result<(Section<'m>, usize), Fault>
     requires { at ≤ length message.now }
     ensures fault { result_err result ≡ section_fault at many message.now }
     ensures stretch { IfOk result (λ s. IsStretch message.entry s.0 (at + 2) many) }
@@ -94,7 +97,7 @@ fn section<'m>(message: &'m [u8], at: usize, many: usize) -> Result<(Section<'m>
 }
 
 // That nothing comes after the last section.
-fn end(message: &[u8], at: usize) -> Result<(), Fault>
+fn check_end(message: &[u8], at: usize) -> Result<(), Fault>
     ensures { result_err result ≡ shape_fault at [] message.now }
 {
     if message.len() > at {
@@ -109,16 +112,16 @@ fn read_head<P: Profile>(kind: Kind, head: &[u8]) -> Result<u32, Fault>
     ensures fault { result_err result ≡ head_fault P.NUMBERS kind head.now }
     ensures round { IfOk result (λ round. round ≡ round_in head.now) }
 {
-    let [first, numbers, reconciler, r0, r1, r2, r3] = head else {
+    let [kind_byte, numbers_byte, reconciler_byte, r0, r1, r2, r3] = head else {
         unreachable!();
     };
-    if *first != kind.byte() {
+    if *kind_byte != kind.byte() {
         return Err(Fault::WrongHead(2));
     }
-    if *numbers != P::NUMBERS.numbers_byte {
+    if *numbers_byte != P::NUMBERS.numbers_byte {
         return Err(Fault::WrongHead(3));
     }
-    if *reconciler != P::NUMBERS.reconciler_byte {
+    if *reconciler_byte != P::NUMBERS.reconciler_byte {
         return Err(Fault::WrongHead(4));
     }
     Ok(u32::from_le_bytes([*r0, *r1, *r2, *r3]))

@@ -9,7 +9,7 @@ ghost use Rattle.message.specs.Writing.{write_answer};
 use crate::head::head;
 use crate::kind::Kind;
 use crate::parts::{Answer, Confirmation, Offer};
-use crate::sections::{pack_section, write_section};
+use crate::section_writing::{pack_section, write_section};
 use packing::{Fields, signals_width, values_width};
 use profile::{
     Profile, answer_length, confirmation_length, offer_length, signals_length, values_length,

@@ -7,7 +7,7 @@ use Rattle.std.proofs.lemmas.List.{get_or_past}
 use Rattle.std.proofs.lemmas.List.Elements.{All-head, All-tail}
 use Rattle.std.proofs.lemmas.Nat.{pow_pos, shr-shr, shr_split, mod_below, div-add-mod'}
 use Rattle.std.proofs.lemmas.Nat.Bits.{bit_at_cat_low, bit_at_cat_high, bit_at_above, bit_at-zero, same_from_bits}
-use Rattle.packing.specs.Packing.{number, AllFit}
+use Rattle.packing.specs.Packing.{number, digits, AllFit}
 use Rattle.packing.specs.PackingLaws.{bit_of}
 use Rattle.packing.proofs.Digits.{number_below}
 
@@ -47,3 +47,12 @@ pub below_from_bits : (x k : ℕ) → ((j : ℕ) → k ≤ j → bit_at x j ≡ 
 below_from_bits x k none =
     let high : x / 2 ^ k ≡ 0 = same_from_bits (x / 2 ^ k) 0 (λ i. ap (λ n. n % 2) (shr-shr x k i) ∙ none (k + i) (omega arith) ∙ sym (bit_at-zero i)) in
     omega (arith, ap (λ h. h * 2 ^ k) high, shr_split x k, mod_below x (2 ^ k) (pow_pos k))
+
+-- bit k of digit i of a number
+pub bit_of_digits : (w many x i k : ℕ) → i < many → k < w → bit_at (get_or (digits w many x) i 0) k ≡ bit_at x (i * w + k)
+bit_of_digits w zero x i k inside low = absurd (omega arith)
+bit_of_digits w (suc many) x zero k inside low =
+    sym (bit_at_cat_low (x / 2 ^ w) w (x % 2 ^ w) k low) ∙ ap (λ n. bit_at n k) (shr_split x w) ∙ ap (bit_at x) (omega arith)
+bit_of_digits w (suc many) x (suc i) k inside low =
+    let exponent : w + (i * w + k) ≡ suc i * w + k = omega arith in
+    bit_of_digits w many (x / 2 ^ w) i k (omega arith) low ∙ ap (λ n. n % 2) (shr-shr x w (i * w + k)) ∙ ap (bit_at x) exponent

@@ -4,7 +4,7 @@ use Rattle.std.specs.Int.{bit_at}
 use Rattle.profile.specs.Lengths.{packed_length}
 use Rattle.packing.specs.Packing.{number, digits, packed, unpacked, AllFit}
 use Rattle.packing.specs.PackingLaws.{PackingIsLawful, PackingLaws, SpareClear, bit_of}
-use Rattle.packing.proofs.Bits.{bit_of_digit, bit_after, bit_of_bytes, below_from_bits}
+use Rattle.packing.proofs.Bits.{bit_of_digit, bit_of_digits, bit_after, bit_of_bytes, below_from_bits}
 use Rattle.packing.proofs.Digits.{length-digits, digits_fit, number_below, number_digits, digits_number}
 use Rattle.std.proofs.Math.Nat.{pow-le-pow_right}
 
@@ -46,6 +46,7 @@ module _ (w : ℕ) where
   laws = record {
     in_place = λ xs i k fit inside low. bits_packed xs (i * w + k) fit ∙ bit_of_digit w xs i k fit inside low;
     spare_clear = λ xs fit j after. bits_packed xs j fit ∙ bit_after w xs j fit after;
+    read_in_place = λ many bytes i k fit inside low. bit_of_digits w many (number 8 bytes) i k inside low ∙ sym (bit_of_bytes bytes (i * w + k) fit);
     unpacks_what_was_packed = unpacks_what_was_packed;
     packs_what_was_unpacked = packs_what_was_unpacked;
   }

@@ -1,9 +1,9 @@
 -- Numbers of a few bits each, one after another, low bit first, as bytes.
-use Rattle.std.specs.Prelude.{ℕ, zero, suc, ◌+◌, ◌*◌, ◌/◌, ◌%◌, ◌^◌, ◌<◌, ltb, List, [], ◌∷◌, length, ◌==◌, Ok, Result, All}
+use Rattle.std.specs.Prelude.{nat_le, ℕ, zero, suc, ◌+◌, ◌*◌, ◌/◌, ◌%◌, ◌^◌, ◌<◌, ltb, List, [], ◌∷◌, length, ◌==◌, Ok, Result, All}
 use Rattle.std.specs.List.{prefix_len}
 use Rattle.ring.specs.Faults.{checked}
 use Rattle.ring.specs.declared.fault.Fault.{Fault}
-use Rattle.ring.specs.declared.fault.Fault.TheVariants.{WrongLength}
+use Rattle.ring.specs.declared.fault.Fault.TheVariants.{WrongLength, OutOfRange}
 use Rattle.profile.specs.Lengths.{packed_length}
 
 -- what digits of w bits stand for, the lowest digit first
@@ -31,10 +31,17 @@ AllFit w xs = All (λ x. x < 2 ^ w) xs
 abbrev pub front_fitting : (w : ℕ) → List ℕ → ℕ
 front_fitting w xs = prefix_len (λ x. ltb x (2 ^ w)) xs
 
--- packing into so much room
+-- packing numbers of w bits into so much room
 abbrev pub pack_answer : (w : ℕ) → List ℕ → (room : ℕ) → Result (Unit {0}) Fault
 pack_answer w xs room = checked (room == packed_length (length xs) w) (WrongLength 4) (Ok tt)
 
 -- unpacking so many numbers
 abbrev pub unpack_answer : (w : ℕ) → List ℕ → (many : ℕ) → Result (Unit {0}) Fault
 unpack_answer w bytes many = checked (length bytes == packed_length many w) (WrongLength 1) (Ok tt)
+
+-- packing numbers that may have more than w bits, into so much room
+abbrev pub pack_numbers_answer : (w : ℕ) → List ℕ → (room : ℕ) → Result (Unit {0}) Fault
+pack_numbers_answer w xs room =
+    checked (room == packed_length (length xs) w) (WrongLength 4)
+    (checked (nat_le (length xs) (front_fitting w xs)) (OutOfRange (front_fitting w xs))
+    (Ok tt))

@@ -2,7 +2,7 @@
 ghost use Rattle.std.specs.Prelude.{◌≡◌, ◌≤◌, ◌<◌, IfOk, MatchResult, OnOk, length};
 ghost use Rattle.ring.specs.Faults.{after};
 ghost use Rattle.profile.specs.Lengths.{packed_length};
-ghost use Rattle.packing.specs.Packing.{AllFit, front_fitting, number, pack_answer, packed, unpacked};
+ghost use Rattle.packing.specs.Packing.{AllFit, front_fitting, number, pack_answer, pack_numbers_answer, packed, unpacked};
 
 use crate::fields::Fields;
 use crate::width::Width;
@@ -29,7 +29,7 @@ impl<'a> Fields<'a> {
     pub fn pack(self, output: &mut [u8]) -> Result<(), Fault>
         ensures answer { result ≡ pack_answer self.entry.width.bits self.entry.numbers.now (length output.old) }
         ensures writes { output.new ≡ after result (packed self.entry.width.bits self.entry.numbers.now) output.old }
-        ensures unpacks { let w = self.entry.width.bits in let xs = self.entry.numbers.now in
+        ensures unpacks_back { let w = self.entry.width.bits in let xs = self.entry.numbers.now in
             OnOk result (unpacked w (length xs) output.new ≡ xs) }
     {
         let Fields { width, numbers } = self;
@@ -43,6 +43,21 @@ impl<'a> Fields<'a> {
         }
         pack_eight(width, rest, &mut output[eights.len() * size..]);
         Ok(())
+    }
+}
+
+impl Width {
+    // Packs numbers, of which each has to have no more bits than the width. A wrong length is found before them.
+    pub fn pack(self, numbers: &[u32], output: &mut [u8]) -> Result<(), Fault>
+        ensures answer { result ≡ pack_numbers_answer self.bits numbers.now (length output.old) }
+        ensures writes { output.new ≡ after result (packed self.bits numbers.now) output.old }
+        ensures unpacks_back { OnOk result (unpacked self.bits (length numbers.now) output.new ≡ numbers.now) }
+    {
+        if output.len() != self.packed_length(numbers) {
+            return Err(Fault::WrongLength(4));
+        }
+        let fields = Fields::check(self, numbers).map_err(Fault::OutOfRange)?;
+        fields.pack(output)
     }
 }
 

@@ -2,7 +2,7 @@
 ghost use Rattle.std.specs.Prelude.{◌≡◌, ◌≤◌, OnOk, length};
 ghost use Rattle.ring.specs.Faults.{after};
 ghost use Rattle.profile.specs.Lengths.{packed_length};
-ghost use Rattle.packing.specs.Packing.{digits, packed, unpack_answer, unpacked};
+ghost use Rattle.packing.specs.Packing.{AllFit, digits, packed, unpack_answer, unpacked};
 ghost use Rattle.packing.specs.PackingLaws.{SpareClear};
 
 use crate::width::Width;
@@ -14,7 +14,8 @@ impl Width {
     pub fn unpack(self, bytes: &[u8], numbers: &mut [u32]) -> Result<(), Fault>
         ensures answer { result ≡ unpack_answer self.bits bytes.now (length numbers.old) }
         ensures reads { numbers.new ≡ after result (unpacked self.bits (length numbers.old) bytes.now) numbers.old }
-        ensures packs { SpareClear self.bits (length numbers.old) bytes.now
+        ensures fit { OnOk result (AllFit self.bits numbers.new) }
+        ensures packs_back { SpareClear self.bits (length numbers.old) bytes.now
             → OnOk result (packed self.bits numbers.new ≡ bytes.now) }
     {
         if bytes.len() != self.packed_length(numbers) {

@@ -4,9 +4,11 @@ ghost use Rattle.profile.specs.Lengths.{packed_length, values_length, signals_le
 
 use crate::profile::Profile;
 
-const HEAD: usize = 7;
+// The bytes of a message's head.
+pub const HEAD_LENGTH: usize = 7;
 
-const SEED: usize = 16;
+// The bytes of a seed.
+pub const SEED_LENGTH: usize = 16;
 
 // What n numbers of `width` bits take, packed one after another.
 fn packed<P: Profile>(width: u32) -> usize
@@ -45,21 +47,21 @@ pub fn signals_length<P: Profile>() -> usize
 pub fn offer_length<P: Profile>() -> usize
     ensures { result ≡ offer_length P.NUMBERS }
 {
-    section(HEAD) + section(SEED) + section(values_length::<P>())
+    section(HEAD_LENGTH) + section(SEED_LENGTH) + section(values_length::<P>())
 }
 
 // Head, rounded values and signals.
 pub fn answer_length<P: Profile>() -> usize
     ensures { result ≡ answer_length P.NUMBERS }
 {
-    section(HEAD) + section(values_length::<P>()) + section(signals_length::<P>())
+    section(HEAD_LENGTH) + section(values_length::<P>()) + section(signals_length::<P>())
 }
 
 // The head alone, in every profile.
 pub fn confirmation_length() -> usize
     ensures { result ≡ confirmation_length }
 {
-    section(HEAD)
+    section(HEAD_LENGTH)
 }
 
 // One bit for each coefficient.

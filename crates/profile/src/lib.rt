@@ -10,7 +10,8 @@ mod secret;
 mod sizes;
 
 pub use lengths::{
-    answer_length, confirmation_length, key_length, offer_length, signals_length, values_length,
+    HEAD_LENGTH, SEED_LENGTH, answer_length, confirmation_length, key_length, offer_length,
+    signals_length, values_length,
 };
 pub use numbers::Numbers;
 pub use place::Place;

@@ -9,9 +9,9 @@ pub enum Failure {
     Malformed,
     // reading refuses the message
     Refused(message::Fault),
-    // writing refuses the parts that were read
-    NotWritten(ring::Fault),
-    // or writes other bytes than were read
+    // unpacking or writing refuses what was read
+    RingFault(ring::Fault),
+    // writing gives other bytes than were read
     WrittenOtherwise,
     OutOfMemory,
     Io(io::Error),
@@ -34,7 +34,7 @@ impl From<message::Fault> for Failure {
 
 impl From<ring::Fault> for Failure {
     fn from(fault: ring::Fault) -> Failure {
-        Failure::NotWritten(fault)
+        Failure::RingFault(fault)
     }
 }
 

@@ -8,8 +8,8 @@ use Rattle.message.specs.Sections.{stretch}
 use Rattle.message.proofs.WrittenAgain.{same_answer}
 use Rattle.message.proofs.reading.read_answer.Goals as goal
 
-pub returns-clause-same_bytes : goal.returns-clause-same_bytes
-returns-clause-same_bytes g c =
+pub returns-clause-writes_back : goal.returns-clause-writes_back
+returns-clause-writes_back g c =
     let k = g.P.Profile.NUMBERS in
     let none : ◌≡◌ {A = Option Fault} None (reading_fault k Answer c.args.message.now) = search rules in
     let round : c.in_ok-round.round ≡ round_in (head_of c.args.message.now) = search rules in

@@ -6,8 +6,8 @@ use Rattle.message.specs.Reading.{head_of, reading_fault, round_in}
 use Rattle.message.proofs.WrittenAgain.{same_confirmation}
 use Rattle.message.proofs.reading.read_confirmation.Goals as goal
 
-pub returns-clause-same_bytes : goal.returns-clause-same_bytes
-returns-clause-same_bytes g c =
+pub returns-clause-writes_back : goal.returns-clause-writes_back
+returns-clause-writes_back g c =
     let k = g.P.Profile.NUMBERS in
     let none : ◌≡◌ {A = Option Fault} None (reading_fault k Confirmation c.args.message.now) = search rules in
     let round : c.in_ok-round.round ≡ round_in (head_of c.args.message.now) = search rules in

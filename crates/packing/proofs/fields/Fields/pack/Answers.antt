@@ -39,7 +39,7 @@ slice_bounds-pack_eight-start-2 c =
     let inside = rest_inside c.args.self.width.bits c.args.self.numbers.now c.as_chunks.result.1.now _ c.loop-i.output c.args.self.fit c.as_chunks.ensures.front_len c.as_chunks.ensures.back (omega arith) in
     omega (arith, inside)
 
-pub returns-clause-unpacks : goal.returns-clause-unpacks
-returns-clause-unpacks c =
+pub returns-clause-unpacks_back : goal.returns-clause-unpacks_back
+returns-clause-unpacks_back c =
     ap (unpacked c.args.self.width.bits (length c.args.self.numbers.now)) (returns-clause-writes c)
     ∙ unpacks_what_was_packed c.args.self.width.bits c.args.self.numbers.now c.args.self.fit

@@ -1,8 +1,10 @@
-use Rattle.std.proofs.Common.{◌∙◌, ap, ◌≡◌, ◌≤◌, ◌+◌, ◌-◌, ◌*◌, ◌/◌, length, take, drop, arith, rules}
+use Rattle.std.proofs.Common.{◌<◌, ◌^◌, ◌∙◌, ap, ◌≡◌, ◌≤◌, ◌+◌, ◌-◌, ◌*◌, ◌/◌, length, take, drop, arith, rules}
 use Rattle.std.proofs.lemmas.List.{places}
 use Rattle.packing.proofs.EightsBack.{length_of_eight, length_of_rest, eight_inside, eights_more, rest_inside, rest_room, all_unpacked}
 use Rattle.packing.proofs.Splitting.{bytes_fit}
-use Rattle.packing.specs.Packing.{packed}
+use Rattle.std.proofs.lemmas.List.Elements.{All-same}
+use Rattle.packing.proofs.Digits.{digits_fit}
+use Rattle.packing.specs.Packing.{number, packed}
 use Rattle.packing.proofs.Laws.{packs_what_was_unpacked}
 use Rattle.packing.proofs.width.Width.unpack.Goals as goal
 
@@ -38,7 +40,10 @@ returns-clause-reads c =
     all_unpacked c.args.self.bits (length c.args.numbers.now) c.loop-i.numbers c.args.bytes.now (length c.args.numbers.now / 8) (bytes_fit _ (λ i. (c.type_inv.bytes i).fits)) (omega arith) c.loop-i.auto.numbers (omega arith)
     c.loop-i.i _ _ (omega arith) left c.unpack_eight-2.ensures c.loop-i.invariant
 
-pub returns-clause-packs : goal.returns-clause-packs
-returns-clause-packs c = λ clear.
+pub returns-clause-packs_back : goal.returns-clause-packs_back
+returns-clause-packs_back c = λ clear.
     ap (packed c.args.self.bits) (returns-clause-reads c)
     ∙ packs_what_was_unpacked c.args.self.bits (length c.args.numbers.now) c.args.bytes.now (bytes_fit _ (λ i. (c.type_inv.bytes i).fits)) (omega arith) clear
+
+pub returns-clause-fit : goal.returns-clause-fit
+returns-clause-fit c = All-same (λ x. x < 2 ^ c.args.self.bits) _ _ (returns-clause-reads c) (digits_fit c.args.self.bits (length c.args.numbers.now) (number 8 c.args.bytes.now))
