@@ -1,13 +1,14 @@
 -- Numbers of 128 bits from bytes, and split into digits.
-use Rattle.std.proofs.Common.{◌≡◌, ℕ, zero, suc, ◌+◌, ◌-◌, ◌*◌, ◌/◌, ◌%◌, ◌^◌, ◌<◌, ◌≤◌, List, [], ◌∷◌, ◌++◌, length, get_or, take, drop, set, replicate, sym, refl, ap, ◌∙◌, arith}
+use Rattle.std.proofs.Common.{◌≡◌, ℕ, zero, suc, ◌+◌, ◌-◌, ◌*◌, ◌/◌, ◌%◌, ◌^◌, ◌<◌, ◌≤◌, List, [], ◌∷◌, ◌++◌, length, get_or, take, drop, set, replicate, sym, refl, ap, ◌∙◌, min, ⊎_elim, arith}
 use lib.Bits.{bit_and}
 use Rattle.std.specs.Int.{w128, byte_worth, sum_through, from_le_bytes}
-use Rattle.std.proofs.Math.Nat.{div-one, add-mul}
+use Rattle.std.proofs.Math.Nat.{add-mul, div-one, mul_assoc, mul_comm}
 use Rattle.std.proofs.lemmas.List.{take_all, take_more_set, length-append, length-replicate, drop-replicate}
 use Rattle.std.proofs.lemmas.List.Elements.{All-from_get_or}
-use Rattle.std.proofs.lemmas.Nat.{and_mask, one_shl, shr-shr}
+use Rattle.std.proofs.lemmas.Nat.{and_mask, mul-le, one_shl, pow-add, shr-shr, shr_split}
+use Rattle.std.proofs.lemmas.Bool.{cases_lt}
 use Rattle.packing.specs.Packing.{number, digits, AllFit}
-use Rattle.packing.proofs.Digits.{none, digits_append, number_append}
+use Rattle.packing.proofs.Digits.{none, digits_append, digits_below, number_append}
 use Rattle.packing.proofs.Eights.{scale}
 use Rattle.packing.proofs.Joining.{number_more}
 
@@ -47,8 +48,8 @@ digits_more : (w i x : ℕ) → digits w (i + 1) x ≡ digits w i x ++ (x / 2 ^ 
 digits_more w i x = digits_append w i 1 x
 
 -- the low bits, by a mask
-pub low_bits : (w x : ℕ) → w ≤ 16 → bit_and x (1 * 2 ^ w % 2 ^ 128 - 1) ≡ x % 2 ^ w
-low_bits w x narrow = ap (λ p. bit_and x (p - 1)) (one_shl w 128 (omega arith)) ∙ and_mask x w
+pub low_bits : (w x : ℕ) → w ≤ 16 → bit_and x (1 * 2 ^ w % 2 ^ 64 - 1) ≡ x % 2 ^ w
+low_bits w x narrow = ap (λ p. bit_and x (p - 1)) (one_shl w 64 (omega arith)) ∙ and_mask x w
 
 pub split_more : (w x : ℕ) (numbers : List ℕ) (i rest digit : ℕ) → i < length numbers → rest ≡ x / 2 ^ (i * w) → digit ≡ rest % 2 ^ w → take i numbers ≡ digits w i x → take (i + 1) (set numbers i digit) ≡ digits w (i + 1) x
 split_more w x numbers i rest digit inside is_rest is before =
@@ -69,3 +70,32 @@ block_number bytes front is few =
     let filled : front ++ drop (length bytes) (replicate 16 0) ≡ bytes ++ replicate room 0 = (λ j. is j ++ drop-replicate (length bytes) 16 0 j) in
     let long : length (bytes ++ replicate room 0) ≡ 16 = length-append bytes (replicate room 0) ∙ ap (λ n. length bytes + n) (length-replicate room 0) ∙ omega arith in
     ap (from_le_bytes w128) filled ∙ number_from_bytes (bytes ++ replicate room 0) long ∙ number_padded bytes room
+
+-- the digits that lie within the low bits
+digits_of_low : (w many r x : ℕ) → many * w ≤ r → digits w many (x % 2 ^ r) ≡ digits w many x
+digits_of_low w many r x within =
+    let low = x % 2 ^ r in
+    let high = x / 2 ^ r in
+    let rest = r - many * w in
+    let exponent : r ≡ many * w + rest = omega arith in
+    let power : 2 ^ r ≡ 2 ^ (many * w) * 2 ^ rest = ap (λ e. 2 ^ e) exponent ∙ pow-add 2 (many * w) rest in
+    let worth : high * 2 ^ r ≡ 2 ^ (many * w) * (2 ^ rest * high) = mul_comm high (2 ^ r) ∙ ap (λ p. p * high) power ∙ mul_assoc (2 ^ (many * w)) (2 ^ rest) high in
+    let whole : low + 2 ^ (many * w) * (2 ^ rest * high) ≡ x = omega (arith, worth, shr_split x r) in
+    sym (digits_below w many low (2 ^ rest * high)) ∙ ap (digits w many) whole
+
+-- up to eight digits, four by four
+pub halves_split : (w x n : ℕ) (low high : List ℕ) → w ≤ 16 → n ≤ 8 → low ≡ digits w (min n 4) (x % 2 ^ 64) → high ≡ digits w (n - min n 4) (x / 2 ^ (4 * w) % 2 ^ 64) → low ++ high ≡ digits w n x
+halves_split w x n low high narrow few lows highs =
+    let m = min n 4 in
+    let k = n - m in
+    let low_bits : m * w ≤ 4 * 16 = mul-le m w 4 16 (omega arith) narrow in
+    let high_bits : k * w ≤ 4 * 16 = mul-le k w 4 16 (omega arith) narrow in
+    let count : m + k ≡ n = omega arith in
+    let above : digits w k (x / 2 ^ (4 * w)) ≡ digits w k (x / 2 ^ (m * w)) =
+    ⊎_elim
+    (λ (less : n < 4). let none : k ≡ 0 = omega arith in ap (λ c. digits w c (x / 2 ^ (4 * w))) none ∙ sym (ap (λ c. digits w c (x / 2 ^ (m * w))) none))
+    (λ (full : 4 ≤ n). let four : 4 ≡ m = omega arith in ap (λ c. digits w k (x / 2 ^ (c * w))) four)
+    (cases_lt n 4) in
+    (λ j. (lows ∙ digits_of_low w m 64 x (omega (arith, low_bits))) j ++ (highs ∙ digits_of_low w k 64 (x / 2 ^ (4 * w)) (omega (arith, high_bits)) ∙ above) j)
+    ∙ sym (digits_append w m k x)
+    ∙ ap (λ c. digits w c x) count

@@ -1,5 +1,5 @@
 // Packing: from numbers to bytes.
-ghost use Rattle.std.specs.Prelude.{◌≡◌, ◌≤◌, ◌<◌, IfOk, MatchResult, OnOk, length};
+ghost use Rattle.std.specs.Prelude.{◌≡◌, ◌≤◌, ◌<◌, All, IfOk, MatchResult, OnOk, length};
 ghost use Rattle.ring.specs.Faults.{after};
 ghost use Rattle.profile.specs.Lengths.{packed_length};
 ghost use Rattle.packing.specs.Packing.{AllFit, front_fitting, number, pack_answer, pack_numbers_answer, packed, unpacked};
@@ -62,10 +62,25 @@ impl Width {
 }
 
 // How many numbers come before the first that has more bits than the width.
+#[tactic(auto, using(crate::proofs::Fitting::front_is_whole))]
 fn front_fitting(width: Width, numbers: &[u32]) -> usize
     ensures { result ≡ front_fitting width.bits numbers.now }
 {
+    if width.fits(union(numbers)) {
+        return numbers.len();
+    }
     numbers.iter().take_while(|x| width.fits(**x)).count()
+}
+
+// The bits that any of the numbers has. No number is larger.
+fn union(numbers: &[u32]) -> u32
+    ensures { All (λ x. x ≤ result) numbers.now }
+{
+    let mut all = 0;
+    for x in numbers {
+        all |= *x;
+    }
+    all
 }
 
 // Writes the bytes of up to eight numbers.
@@ -79,15 +94,25 @@ fn pack_eight(width: Width, numbers: &[u32], output: &mut [u8])
     output.copy_from_slice(&bytes[..output.len()]);
 }
 
-// The number whose digits are up to eight numbers: it has at most 128 bits.
+// The number whose digits are up to eight numbers: it has at most 128 bits. Half of them fit a machine word.
 fn joined(width: Width, digits: &[u32]) -> u128
     requires few { length digits.now ≤ 8 }
     requires fit { AllFit width.bits digits.now }
     ensures { result ≡ number width.bits digits.now }
 {
+    let (low, high) = digits.split_at(digits.len().min(4));
+    u128::from(joined_four(width, low)) + (u128::from(joined_four(width, high)) << (4 * width.bits))
+}
+
+// The same of up to four.
+fn joined_four(width: Width, digits: &[u32]) -> u64
+    requires few { length digits.now ≤ 4 }
+    requires fit { AllFit width.bits digits.now }
+    ensures { result ≡ number width.bits digits.now }
+{
     let mut sum = 0;
     for (i, digit) in digits.iter().enumerate() {
-        sum += u128::from(*digit) << (i as u32 * width.bits);
+        sum += u64::from(*digit) << (i as u32 * width.bits);
     }
     sum
 }

@@ -1,5 +1,5 @@
 // Unpacking: from bytes to numbers.
-ghost use Rattle.std.specs.Prelude.{◌≡◌, ◌≤◌, OnOk, length};
+ghost use Rattle.std.specs.Prelude.{◌≡◌, ◌%◌, ◌^◌, ◌≤◌, OnOk, length};
 ghost use Rattle.ring.specs.Faults.{after};
 ghost use Rattle.profile.specs.Lengths.{packed_length};
 ghost use Rattle.packing.specs.Packing.{AllFit, digits, packed, unpack_answer, unpacked};
@@ -46,13 +46,29 @@ fn unpack_eight(width: Width, bytes: &[u8], numbers: &mut [u32])
     split(width, u128::from_le_bytes(block), numbers);
 }
 
-// The lowest digits of a number.
-#[tactic(auto, using(crate::proofs::Splitting::low_bits, crate::proofs::Splitting::split_more))]
+// The lowest digits of a number, up to eight. Half of them fit a machine word.
 fn split(width: Width, joined: u128, numbers: &mut [u32])
+    requires { length numbers.old ≤ 8 }
     ensures { numbers.new ≡ digits width.bits (length numbers.old) joined }
 {
+    let middle = numbers.len().min(4);
+    let (low, high) = numbers.split_at_mut(middle);
+    split_word(width, low_word(joined), low);
+    split_word(width, low_word(joined >> (4 * width.bits)), high);
+}
+
+fn low_word(x: u128) -> u64
+    ensures { result ≡ x % 2 ^ 64 }
+{
+    (x & u128::from(u64::MAX)) as u64
+}
+
+// The lowest digits of a word.
+fn split_word(width: Width, word: u64, numbers: &mut [u32])
+    ensures { numbers.new ≡ digits width.bits (length numbers.old) word }
+{
     let mask = (1 << width.bits) - 1;
-    let mut rest = joined;
+    let mut rest = word;
     for number in numbers.iter_mut() {
         *number = (rest & mask) as u32;
         rest >>= width.bits;

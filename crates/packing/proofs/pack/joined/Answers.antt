@@ -1,17 +1,10 @@
-use Rattle.std.proofs.Common.{arith, ap, ◌∙◌}
-use Rattle.std.proofs.lemmas.List.{take_all}
-use Rattle.packing.specs.Packing.{number}
-use Rattle.packing.proofs.Joining.{joined_more, joined_fits}
+use Rattle.std.proofs.Common.{◌+◌, ◌*◌, ◌%◌, ◌^◌, ◌∙◌, take, drop, ap}
+use Rattle.packing.proofs.Joining.{halves_joined}
 use Rattle.packing.proofs.pack.joined.Goals as goal
-
-pub overflow_add-sum : goal.overflow_add-sum
-overflow_add-sum c =
-    record { fits = joined_fits c.args.width.bits c.args.digits.now c.loop-i.i c.loop-i.sum _ c.args.width.at_most c.requires.few c.requires.fit c.loop-i-test.true c.loop-i.invariant c.from.ensures }
-
-pub loop-i-preserved : goal.loop-i-preserved
-loop-i-preserved c =
-    joined_more c.args.width.bits c.args.digits.now c.loop-i.i c.loop-i.sum _ c.args.width.at_most c.requires.few c.requires.fit c.loop-i-test.true c.loop-i.invariant c.from.ensures
 
 pub returns : goal.returns
 returns c =
-    c.loop-i.invariant ∙ ap (number c.args.width.bits) (take_all c.loop-i.i c.args.digits.now (omega (arith, c.loop-i-test.false)))
+    let xs = c.args.digits.now in
+    (λ j. (c.from.ensures ∙ c.joined_four.ensures) j + (c.from-2.ensures ∙ c.joined_four-2.ensures) j * 2 ^ (4 * c.args.width.bits) % 2 ^ 128)
+    ∙ halves_joined c.args.width.bits xs _ _ c.args.width.at_most c.requires.few c.requires.fit
+    (c.split_at.ensures.front ∙ ap (λ m. take m xs) c.min.ensures) (c.split_at.ensures.back ∙ ap (λ m. drop m xs) c.min.ensures)

@@ -1,23 +1,13 @@
-use Rattle.std.proofs.Common.{◌≡◌, ◌∙◌, length, sym, ap, refl, arith}
-use Rattle.std.proofs.lemmas.List.{take_all}
+use Rattle.std.proofs.Common.{◌≡◌, ◌-◌, ◌∙◌, length, min, arith}
 use Rattle.packing.specs.Packing.{digits}
-use Rattle.packing.proofs.Splitting.{none_split, low_bits, split_more, rest_more}
+use Rattle.packing.proofs.Splitting.{halves_split}
 use Rattle.packing.proofs.unpack.split.Goals as goal
-
-pub loop-number-init : goal.loop-number-init
-loop-number-init c = (refl, none_split c.args.width.bits c.args.joined)
-
-pub loop-number-preserved : goal.loop-number-preserved
-loop-number-preserved c =
-    let w = c.args.width.bits in
-    let x = c.args.joined in (
-      split_more w x c.loop-number.numbers c.loop-number.number-index c.loop-number.rest _ (omega arith) c.loop-number.invariant.1 (low_bits w c.loop-number.rest c.args.width.at_most) c.loop-number.invariant.0,
-      rest_more w x c.loop-number.number-index c.loop-number.rest c.loop-number.invariant.1,
-    )
 
 pub returns : goal.returns
 returns c =
-    let all : c.loop-number.number-index ≡ length c.args.numbers.now = omega (arith, c.loop-number.auto.number-index-end) in
-    sym (take_all c.loop-number.number-index c.loop-number.numbers (omega (arith, c.loop-number.auto.numbers)))
-    ∙ c.loop-number.invariant.0
-    ∙ ap (λ n. digits c.args.width.bits n c.args.joined) all
+    let n = length c.args.numbers.now in
+    let w = c.args.width.bits in
+    let low_long : length c.split_at_mut-low.result.0.now ≡ min n 4 = c.split_at_mut-low.ensures.front_len ∙ c.min-middle.ensures in
+    let high_long : length c.split_at_mut-low.result.1.now ≡ n - min n 4 = omega (arith, c.split_at_mut-low.ensures.back_len, c.min-middle.ensures) in
+    halves_split w c.args.joined n c.split_word.new.numbers c.split_word-2.new.numbers c.args.width.at_most c.requires
+    (c.split_word.ensures ∙ (λ j. digits w (low_long j) (c.low_word.ensures j))) (c.split_word-2.ensures ∙ (λ j. digits w (high_long j) (c.low_word-2.ensures j)))
