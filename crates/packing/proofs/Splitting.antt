@@ -47,6 +47,10 @@ bytes_fit bytes below = All-from_get_or (λ b. b < 256) bytes 0 (λ i inside. be
 digits_more : (w i x : ℕ) → digits w (i + 1) x ≡ digits w i x ++ (x / 2 ^ (i * w) % 2 ^ w) ∷ []
 digits_more w i x = digits_append w i 1 x
 
+-- the low byte
+pub low_byte : (x : ℕ) → bit_and x 255 ≡ x % 2 ^ 8
+low_byte x = and_mask x 8
+
 -- the low bits, by a mask
 pub low_bits : (w x : ℕ) → w ≤ 16 → bit_and x (1 * 2 ^ w % 2 ^ 64 - 1) ≡ x % 2 ^ w
 low_bits w x narrow = ap (λ p. bit_and x (p - 1)) (one_shl w 64 (omega arith)) ∙ and_mask x w

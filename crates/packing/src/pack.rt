@@ -90,8 +90,11 @@ fn pack_eight(width: Width, numbers: &[u32], output: &mut [u8])
     requires long { length output.old ≡ packed_length (length numbers.now) width.bits }
     ensures { output.new ≡ packed width.bits numbers.now }
 {
-    let bytes = joined(width, numbers).to_le_bytes();
-    output.copy_from_slice(&bytes[..output.len()]);
+    let mut rest = joined(width, numbers);
+    for byte in output.iter_mut() {
+        *byte = (rest & 0xff) as u8;
+        rest >>= 8;
+    }
 }
 
 // The number whose digits are up to eight numbers: it has at most 128 bits. Half of them fit a machine word.

@@ -1,18 +1,22 @@
-use Rattle.std.proofs.Common.{◌∙◌, length, take, ap, arith}
-use Rattle.std.specs.Int.{w128, to_le_bytes}
-use Rattle.packing.proofs.Eights.{few_bytes, front_bytes}
-use Rattle.profile.specs.Lengths.{packed_length}
+use Rattle.std.proofs.Common.{◌≡◌, ◌∙◌, length, sym, refl, arith}
+use Rattle.std.proofs.lemmas.List.{take_all}
+use Rattle.packing.specs.Packing.{digits}
+use Rattle.packing.proofs.Splitting.{none_split, low_byte, split_more, rest_more}
 use Rattle.packing.proofs.pack.pack_eight.Goals as goal
 
-pub slice_bounds-bytes-end : goal.slice_bounds-bytes-end
-slice_bounds-bytes-end c =
-    let few = few_bytes (length c.args.numbers.now) c.args.width.bits c.requires.few c.args.width.at_most in
-    omega (arith, few, c.requires.long, ap length c.to_le_bytes-bytes.ensures)
+pub loop-byte-init : goal.loop-byte-init
+loop-byte-init c = (refl, none_split 8 c.joined-rest.result)
+
+pub loop-byte-preserved : goal.loop-byte-preserved
+loop-byte-preserved c =
+    let x = c.joined-rest.result in (
+      split_more 8 x c.loop-byte.output c.loop-byte.byte-index c.loop-byte.rest _ (omega arith) c.loop-byte.invariant.1 (low_byte c.loop-byte.rest) c.loop-byte.invariant.0,
+      rest_more 8 x c.loop-byte.byte-index c.loop-byte.rest c.loop-byte.invariant.1,
+    )
 
 pub returns : goal.returns
 returns c =
-    let few = few_bytes (length c.args.numbers.now) c.args.width.bits c.requires.few c.args.width.at_most in
-    c.copy_from_slice.ensures.after
-    ∙ ap (λ room. take room c.to_le_bytes-bytes.result) c.requires.long
-    ∙ ap (take (packed_length (length c.args.numbers.now) c.args.width.bits)) (c.to_le_bytes-bytes.ensures ∙ ap (to_le_bytes w128) c.joined.ensures)
-    ∙ front_bytes _ _ few
+    let all : c.loop-byte.byte-index ≡ length c.args.output.now = omega (arith, c.loop-byte.auto.byte-index-end) in
+    sym (take_all c.loop-byte.byte-index c.loop-byte.output (omega (arith, c.loop-byte.auto.output)))
+    ∙ c.loop-byte.invariant.0
+    ∙ (λ j. digits 8 ((all ∙ c.requires.long) j) (c.joined-rest.ensures j))
