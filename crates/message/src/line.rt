@@ -5,7 +5,7 @@ ghost use Rattle.message.specs.Lines.{line, line_answer};
 
 use ring::Fault;
 
-// Writes the line of the bench program that shows bytes under a word into `out`, which has to have its length.
+// Writes the line that shows bytes under a word into `out`, which has to have its length.
 pub fn bench_line(word: &str, bytes: &[u8], out: &mut [u8]) -> Result<(), Fault>
     ensures answer { result ≡ line_answer word.now bytes.now (length out.old) }
     ensures writes { out.new ≡ after result (line word.now bytes.now) out.old }

@@ -35,7 +35,7 @@ fn cut<'m>(rt: &impl Abort, message: &'m [u8], length: usize) -> &'m [u8] {
     &message[..length]
 }
 
-// A message is cut to each shorter length.
+// A message is cut to each shorter length, and so is one with a wrong head.
 fn refuses_cuts<P: Profile>(
     rt: &(impl Abort + AllocGlobal),
     expected: &Expected,
@@ -44,6 +44,7 @@ fn refuses_cuts<P: Profile>(
         let message = written::<P>(rt.alloc(), kind)?;
         assert_eq!(rt; refusal::<P>(kind, &message), None);
         assert_eq!(rt; message.len(), expected.length(kind));
+        let wrong_head = with_byte(rt, &message, 2, 0xff)?;
         for section in expected.sections(kind) {
             let (count, start) = (usize::from(section.count), usize::from(section.start));
             for length in count..start + usize::from(section.bytes) {
@@ -52,6 +53,11 @@ fn refuses_cuts<P: Profile>(
                     refusal::<P>(kind, cut(rt, &message, length)),
                     Some(Fault::WrongShape(place)),
                     "{length} bytes"
+                );
+                assert_eq!(rt;
+                    refusal::<P>(kind, cut(rt, &wrong_head, length)),
+                    Some(Fault::WrongShape(place)),
+                    "{length} bytes with a wrong head"
                 );
             }
         }

@@ -1,42 +1,23 @@
 -- Packing eight numbers at a time: so many eights take whole bytes.
-use Rattle.std.proofs.Common.{◌≡◌, ℕ, zero, suc, ◌+◌, ◌-◌, ◌*◌, ◌/◌, ◌%◌, ◌^◌, ◌<◌, ◌≤◌, List, [], ◌∷◌, ◌++◌, length, get_or, take, drop, sym, refl, ap, ◌∙◌, arith, rules}
-use Rattle.std.specs.Int.{w128, byte_at, bytes_low_first, to_le_bytes}
-use Rattle.std.proofs.Math.Nat.{add-mul-div_left, div-eq_of_lt, div-one, mul_comm, mul_assoc, add-mul, zero-add, mul-le-mul_right, pow-succ'}
-use Rattle.std.proofs.lemmas.List.{length-append, length-take-le, length-drop, take_at, take_all, take-append-drop, drop-drop, places}
+use Rattle.std.proofs.Common.{◌≡◌, ℕ, zero, suc, ◌+◌, ◌-◌, ◌*◌, ◌/◌, ◌%◌, ◌^◌, ◌<◌, ◌≤◌, List, [], ◌++◌, length, get_or, take, drop, sym, refl, ap, ◌∙◌, arith, rules}
+use Rattle.std.proofs.Math.Nat.{add-mul-div_left, div-eq_of_lt, mul_comm, mul_assoc, add-mul, zero-add, mul-le-mul_right, pow-succ'}
+use Rattle.std.proofs.lemmas.List.{length-append, length-take-le, length-drop, take_all, take-append-drop, drop-drop, places}
 use Rattle.std.proofs.lemmas.List.Elements.{All-same, All-take, All-drop}
 use Rattle.std.proofs.lemmas.Slice.{take-put_mid}
 use Rattle.std.proofs.Math.Seq.{take-add}
 use borrow.Rule.Slice.PartMut.{put_mid}
 use Rattle.std.specs.Simd.{first_chunks}
-use Rattle.std.proofs.lemmas.Nat.{mul-le, pow_pos, shr-shr}
+use Rattle.std.proofs.lemmas.Nat.{mul-le, pow_pos}
 use Rattle.profile.specs.Lengths.{packed_length}
 use Rattle.packing.specs.Packing.{number, digits, packed, AllFit}
 use Rattle.packing.proofs.PackedLengths.{by_eights}
 use Rattle.packing.proofs.Digits.{worth, length-digits, digits_append, digits_below, number_append, number_below}
 
--- ---- the bytes of a number of 128 bits are its digits
+-- ---- bytes
 
 pub scale : (i : ℕ) → 256 ^ i ≡ 2 ^ (i * 8)
 scale zero = refl
 scale (suc i) = pow-succ' 256 i ∙ ap (λ p. 256 * p) (scale i) ∙ sym (worth 8 i)
-
-byte_is : (i n : ℕ) → byte_at i n ≡ n / 2 ^ (i * 8) % 2 ^ 8
-byte_is zero n = ap (λ m. m % 256) (sym (div-one n))
-byte_is (suc i) n = ap (λ p. n / p % 256) (scale (suc i))
-
-low_first : (n i k : ℕ) → bytes_low_first i k n ≡ digits 8 k (n / 2 ^ (i * 8))
-low_first n i zero = refl
-low_first n i (suc k) =
-    let exponent : i * 8 + 8 ≡ suc i * 8 = omega arith in
-    let above : n / 2 ^ (i * 8) / 2 ^ 8 ≡ n / 2 ^ (suc i * 8) = shr-shr n (i * 8) 8 ∙ ap (λ e. n / 2 ^ e) exponent in
-    (λ j. byte_is i n j ∷ low_first n (suc i) k j) ∙ ap (λ m. n / 2 ^ (i * 8) % 2 ^ 8 ∷ digits 8 k m) (sym above)
-
-pub front_bytes : (x room : ℕ) → room ≤ 16 → take room (to_le_bytes w128 x) ≡ digits 8 room x
-front_bytes x room few =
-    let all : to_le_bytes w128 x ≡ digits 8 16 x = low_first x 0 16 ∙ ap (digits 8 16) (div-one x) in
-    let split : 16 ≡ room + (16 - room) = omega arith in
-    ap (take room) (all ∙ ap (λ m. digits 8 m x) split ∙ digits_append 8 room (16 - room) x)
-    ∙ take_at (digits 8 room x) (digits 8 (16 - room) (x / 2 ^ (room * 8))) room (length-digits 8 room x)
 
 pub few_bytes : (many w : ℕ) → many ≤ 8 → w ≤ 16 → packed_length many w ≤ 16
 few_bytes many w few narrow = omega (arith, mul-le many w 8 16 few narrow)
