@@ -1,18 +1,17 @@
 -- Lawful parts are accepted by writing.
-use Rattle.std.proofs.Common.{◌≡◌, ℕ, ◌+◌, ◌^◌, ◌<◌, ◌≤◌, ltb, List, ◌++◌, length, Ok, Err, Result, refl, ap, ◌∙◌, sym, ⊎_elim, arith}
+use Rattle.std.proofs.Common.{◌≡◌, ℕ, ◌^◌, ◌<◌, ◌≤◌, ltb, List, ◌++◌, length, Ok, Result, refl, ◌∙◌, ⊎_elim, arith}
 use Rattle.std.proofs.lemmas.Bool.{cond-true, eq-eqb, le-leb, ltb-false, cases_lt}
 use Rattle.std.proofs.lemmas.List.{length-append}
 use Rattle.std.proofs.lemmas.List.Sums.{prefix_len_stops}
 use Rattle.ring.specs.declared.fault.Fault.{Fault}
-use Rattle.ring.specs.declared.fault.Fault.TheVariants.{OutOfRange}
 use Rattle.profile.specs.Laws.{InRange}
 use Rattle.profile.specs.Lengths.{offer_length, answer_length, values_length, signals_length}
 use Rattle.profile.specs.declared.numbers.Numbers.{Numbers}
-use Rattle.packing.specs.Packing.{AllFit, front_fitting, packed}
-use Rattle.message.specs.declared.kind.Kind.TheVariants.{Offer, Answer, Confirmation}
-use Rattle.message.specs.Messages.{Message, offer, answer, confirmation, AreNumbers, HasLawfulParts, encoded, head, section}
+use Rattle.packing.specs.Packing.{front_fitting, packed}
+use Rattle.message.specs.declared.kind.Kind.TheVariants.{Offer, Answer}
+use Rattle.message.specs.Messages.{Message, offer, answer, confirmation, AreNumbers, HasLawfulParts, head, section}
 use Rattle.message.specs.MessageLaws.{WritesLawfulParts}
-use Rattle.message.specs.Writing.{check_fit, write_answer}
+use Rattle.message.specs.Writing.{check_fit}
 use Rattle.message.proofs.ReadBack.{packed_long}
 
 module _ (n w : ℕ) (xs : List ℕ) (are : AreNumbers n w xs) where

@@ -5,6 +5,7 @@ use Rattle.message.proofs.Alike.{alike}
 use Rattle.message.proofs.LeastPlaces.{accepts_only_right_shapes, refuses_at_the_least}
 use Rattle.message.proofs.ReadBack.{reads_back}
 use Rattle.message.proofs.SpareLaws.{tells_spare_bits}
+use Rattle.message.proofs.WrongHeads.{tells_wrong_head}
 use Rattle.message.proofs.WrittenAgain.{is_written_from_its_parts}
 
 pub message_laws : MessageLaws
@@ -15,5 +16,6 @@ message_laws = record {
   tells_kind_profile_and_round = alike;
   refuses_at_the_least = refuses_at_the_least;
   accepts_only_right_shapes = accepts_only_right_shapes;
+  tells_wrong_head = tells_wrong_head;
   tells_spare_bits = tells_spare_bits;
 }

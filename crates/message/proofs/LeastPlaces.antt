@@ -41,9 +41,9 @@ place_in : Option Fault → ℕ
 place_in None = 0
 place_in (Some fault) = place_of fault
 
-same_place : (a b : ℕ) → ◌≡◌ {A = Option Fault} (Some (WrongShape a)) (Some (WrongShape b)) → a ≡ b
+pub same_place : (f g : Fault) → ◌≡◌ {A = Option Fault} (Some f) (Some g) → place_of f ≡ place_of g
 unfolding place_in
-same_place a b e = ap place_in e
+same_place f g e = ap place_in e
 
 pub accepts_only_right_shapes : AcceptsOnlyRightShapes
 accepts_only_right_shapes at [] message place none wrong =
@@ -67,7 +67,7 @@ refuses_at_the_least at [] message place some =
     ⊎_elim
     (λ inside. absurd (none-some (WrongShape place) (sym (cond-true _ _ _ inside) ∙ some)))
     (λ extra.
-    let is : at ≡ place = same_place at place (sym (cond-false _ _ _ extra) ∙ some) in
+    let is : at ≡ place = same_place (WrongShape at) (WrongShape place) (sym (cond-false _ _ _ extra) ∙ some) in
     ((sym is, leb-false _ _ extra), λ sooner lt wrong. omega (arith, is, lt, wrong.0)))
     (cases_Bool (leb (length message) at))
 refuses_at_the_least at (many ∷ rest) message place some =
@@ -85,7 +85,7 @@ refuses_at_the_least at (many ∷ rest) message place some =
             ],
           )
       | cut counted short fault ↦
-          let is : at + 2 ≡ place = same_place (at + 2) place (sym (ap (λ f. option_or f others) fault) ∙ some) in (
+          let is : at + 2 ≡ place = same_place (WrongShape (at + 2)) (WrongShape place) (sym (ap (λ f. option_or f others) fault) ∙ some) in (
             inr (inl (sym is, short)),
             λ sooner lt wrong. elim wrong [
               | inl count ↦ clash (is_counted at many message) counted count.1
@@ -96,6 +96,6 @@ refuses_at_the_least at (many ∷ rest) message place some =
             ],
           )
       | uncounted not fault ↦
-          let is : at ≡ place = same_place at place (sym (ap (λ f. option_or f others) fault) ∙ some) in
+          let is : at ≡ place = same_place (WrongShape at) (WrongShape place) (sym (ap (λ f. option_or f others) fault) ∙ some) in
           (inl (sym is, not), λ sooner lt wrong. omega (arith, is, lt, after_start at (many ∷ rest) message sooner wrong))
     ]

@@ -7,6 +7,7 @@ pub mod Alike
 pub mod LeastPlaces
 pub mod Accepting
 pub mod SpareLaws
+pub mod WrongHeads
 pub mod Laws
 pub mod Lines
 pub mod SpareBits

@@ -1,5 +1,5 @@
 -- What a fault of spare bits says of the bits.
-use Rattle.std.proofs.Common.{◌≡◌, ℕ, ◌+◌, ◌-◌, ◌*◌, ◌/◌, ◌%◌, ◌^◌, ◌<◌, ◌≤◌, ltb, List, length, get_or, Some, None, Option, sym, ap, ◌∙◌, ⊎_elim, arith}
+use Rattle.std.proofs.Common.{◌≡◌, ℕ, ◌+◌, ◌-◌, ◌*◌, ◌/◌, ◌%◌, ◌^◌, ◌<◌, ◌≤◌, ltb, List, length, Some, None, ap, ◌∙◌, ⊎_elim, arith}
 use Rattle.std.specs.Int.{bit_at}
 use Rattle.std.proofs.lemmas.Bool.{cond-true, cond-false, lt-ltb, ltb-true, cases_Bool, cases_lt}
 use Rattle.std.proofs.lemmas.List.{get_or_past}
@@ -9,7 +9,6 @@ use Rattle.packing.specs.Packing.{number, AllFit}
 use Rattle.packing.specs.PackingLaws.{SpareClear, bit_of}
 use Rattle.packing.proofs.Bits.{bit_of_bytes}
 use Rattle.packing.proofs.Laws.{number_from_spare_clear}
-use Rattle.message.specs.declared.fault.Fault.{Fault}
 use Rattle.message.specs.declared.fault.Fault.TheVariants.{SpareBit}
 use Rattle.message.specs.MessageLaws.{TellsSpareBits}
 use Rattle.message.specs.Reading.{spare_bit_fault}

@@ -1,14 +1,14 @@
 -- What is proved of messages as such, of every profile's numbers.
-use Rattle.std.specs.Prelude.{◌≡◌, ℕ, ◌+◌, ◌*◌, ◌/◌, ◌<◌, ◌≤◌, ◌⊎◌, List, [], ◌∷◌, length, Ok, Some, None, false}
+use Rattle.std.specs.Prelude.{◌≡◌, ℕ, ◌+◌, ◌*◌, ◌/◌, ◌<◌, ◌≤◌, ◌⊎◌, List, [], ◌∷◌, length, slice_index, Ok, Some, None, false}
 use Rattle.profile.specs.Laws.{InRange}
 use Rattle.profile.specs.declared.numbers.Numbers.{Numbers}
 use Rattle.profile.specs.Lengths.{packed_length}
 use Rattle.packing.specs.Packing.{AllFit}
 use Rattle.packing.specs.PackingLaws.{SpareClear, bit_of}
-use Rattle.message.specs.declared.fault.Fault.TheVariants.{WrongShape, SpareBit}
+use Rattle.message.specs.declared.fault.Fault.TheVariants.{WrongShape, WrongHead, SpareBit}
 use Rattle.message.specs.declared.kind.Kind.{Kind}
-use Rattle.message.specs.Messages.{Message, HasLawfulParts, IsRound, encoded, kind_of, round_of}
-use Rattle.message.specs.Reading.{reading, spare_bit_fault}
+use Rattle.message.specs.Messages.{Message, HasLawfulParts, IsRound, encoded, head, kind_of, round_of}
+use Rattle.message.specs.Reading.{head_fault, reading, spare_bit_fault}
 use Rattle.message.specs.Writing.{message_length, write_answer}
 use Rattle.message.specs.Shapes.{is_counted, shape_fault}
 
@@ -55,6 +55,15 @@ pub record TellsSpareBits (n w at : ℕ) (bytes : List ℕ) : Type 0 where
   pub none_is_refused : SpareClear w n bytes → spare_bit_fault n w at (packed_length n w) bytes ≡ None
   pub at_its_byte : (j : ℕ) → n * w ≤ j → (bit_of bytes j ≡ 0 → ⊥) → spare_bit_fault n w at (packed_length n w) bytes ≡ Some (SpareBit (at + j / 8))
 
+-- the places of the head's first three bytes that are not those of the kind and the profile
+abbrev pub HeadIsWrongAt : Numbers → Kind → List ℕ → ℕ → Type 0
+HeadIsWrongAt k kind h place = (i : ℕ) × (i < 3) × (place ≡ 2 + i) × (slice_index h i ≡ slice_index (head k kind 0) i → ⊥)
+
+-- a refusal by the head names the least of these places, and without one there is none
+pub record TellsWrongHead (k : Numbers) (kind : Kind) (h : List ℕ) : Type 0 where
+  pub least : (place : ℕ) → head_fault k kind h ≡ Some (WrongHead place) → HeadIsWrongAt k kind h place × ((sooner : ℕ) → sooner < place → HeadIsWrongAt k kind h sooner → ⊥)
+  pub accepted : (place : ℕ) → head_fault k kind h ≡ None → HeadIsWrongAt k kind h place → ⊥
+
 -- lawful parts are written, into as many bytes as a message of the kind has
 pub record WritesLawfulParts (k : Numbers) (m : Message) : Type 0 where
   pub length : length (encoded k m) ≡ message_length k (kind_of m)
@@ -67,4 +76,5 @@ pub record MessageLaws : Type 0 where
   pub tells_kind_profile_and_round : TellsKindProfileAndRound
   pub refuses_at_the_least : RefusesAtTheLeast
   pub accepts_only_right_shapes : AcceptsOnlyRightShapes
+  pub tells_wrong_head : (k : Numbers) (kind : Kind) (h : List ℕ) → TellsWrongHead k kind h
   pub tells_spare_bits : (n w at : ℕ) (bytes : List ℕ) → AllFit 8 bytes → length bytes ≡ packed_length n w → TellsSpareBits n w at bytes

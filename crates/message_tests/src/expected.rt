@@ -34,7 +34,7 @@ const SEED: Place = Place {
 const CONFIRMATION: [Place; 1] = [HEAD];
 
 impl Expected {
-    pub fn sections(&self, kind: Kind) -> &[Place] {
+    pub(crate) fn sections(&self, kind: Kind) -> &[Place] {
         match kind {
             Kind::Offer => &self.offer,
             Kind::Answer => &self.answer,
@@ -42,7 +42,7 @@ impl Expected {
         }
     }
 
-    pub fn length(&self, kind: Kind) -> usize {
+    pub(crate) fn length(&self, kind: Kind) -> usize {
         self.sections(kind).last().map_or(
             0,
             |last| usize::from(last.start) + usize::from(last.bytes),
@@ -50,7 +50,7 @@ impl Expected {
     }
 }
 
-pub const T_DING: Expected = Expected {
+pub(crate) const T_DING: Expected = Expected {
     n: 4,
     value: 63,
     signal: 1,
@@ -78,7 +78,7 @@ pub const T_DING: Expected = Expected {
     ],
 };
 
-pub const T_OKCN: Expected = Expected {
+pub(crate) const T_OKCN: Expected = Expected {
     n: 4,
     value: 63,
     signal: 3,
@@ -106,7 +106,7 @@ pub const T_OKCN: Expected = Expected {
     ],
 };
 
-pub const S_DING: Expected = Expected {
+pub(crate) const S_DING: Expected = Expected {
     n: 512,
     value: 4095,
     signal: 1,
@@ -134,7 +134,7 @@ pub const S_DING: Expected = Expected {
     ],
 };
 
-pub const S_OKCN: Expected = Expected {
+pub(crate) const S_OKCN: Expected = Expected {
     n: 512,
     value: 4095,
     signal: 3,
@@ -162,7 +162,7 @@ pub const S_OKCN: Expected = Expected {
     ],
 };
 
-pub const W_DING: Expected = Expected {
+pub(crate) const W_DING: Expected = Expected {
     n: 256,
     value: 16383,
     signal: 1,
@@ -190,7 +190,7 @@ pub const W_DING: Expected = Expected {
     ],
 };
 
-pub const W_OKCN: Expected = Expected {
+pub(crate) const W_OKCN: Expected = Expected {
     n: 256,
     value: 16383,
     signal: 3,

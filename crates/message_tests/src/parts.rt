@@ -6,22 +6,22 @@ use profile::{Profile, answer_length, confirmation_length, offer_length};
 use std::alloc::{AllocError, Global};
 use std::test::Fail;
 
-pub const SEED: [u8; 16] = [0, 1, 2, 3, 4, 5, 6, 7, 8, 9, 10, 11, 12, 13, 14, 15];
+pub(crate) const SEED: [u8; 16] = [0, 1, 2, 3, 4, 5, 6, 7, 8, 9, 10, 11, 12, 13, 14, 15];
 
-pub const KINDS: [Kind; 3] = [Kind::Offer, Kind::Answer, Kind::Confirmation];
+pub(crate) const KINDS: [Kind; 3] = [Kind::Offer, Kind::Answer, Kind::Confirmation];
 
 // The messages of the worked example: by T with Ding, of round 1.
-pub const OFFER: [u8; 32] = [
+pub(crate) const OFFER: [u8; 32] = [
     7, 0, 1, 1, 1, 1, 0, 0, 0, 16, 0, 0, 1, 2, 3, 4, 5, 6, 7, 8, 9, 10, 11, 12, 13, 14, 15, 3, 0,
     0x18, 0x1c, 0,
 ];
 
-pub const ANSWER: [u8; 17] = [7, 0, 2, 1, 1, 1, 0, 0, 0, 3, 0, 0, 0x26, 7, 1, 0, 2];
+pub(crate) const ANSWER: [u8; 17] = [7, 0, 2, 1, 1, 1, 0, 0, 0, 3, 0, 0, 0x26, 7, 1, 0, 2];
 
-pub const CONFIRMATION: [u8; 9] = [7, 0, 3, 1, 1, 1, 0, 0, 0];
+pub(crate) const CONFIRMATION: [u8; 9] = [7, 0, 3, 1, 1, 1, 0, 0, 0];
 
 // So many times the same number.
-pub fn repeated(alloc: Global, many: usize, number: u32) -> Result<Vec<u32>, AllocError> {
+pub(crate) fn repeated(alloc: Global, many: usize, number: u32) -> Result<Vec<u32>, AllocError> {
     Ok(vec![in alloc; number; many]?)
 }
 
@@ -59,7 +59,7 @@ fn confirmation<P: Profile>(alloc: Global) -> Result<Vec<u8>, Fail> {
 }
 
 // A message of a kind, as the library writes it.
-pub fn written<P: Profile>(alloc: Global, kind: Kind) -> Result<Vec<u8>, Fail> {
+pub(crate) fn written<P: Profile>(alloc: Global, kind: Kind) -> Result<Vec<u8>, Fail> {
     match kind {
         Kind::Offer => offer::<P>(alloc),
         Kind::Answer => answer::<P>(alloc),
@@ -68,7 +68,7 @@ pub fn written<P: Profile>(alloc: Global, kind: Kind) -> Result<Vec<u8>, Fail> {
 }
 
 // Why a message is refused that is read as one of a kind.
-pub fn refusal<P: Profile>(kind: Kind, message: &[u8]) -> Option<Fault> {
+pub(crate) fn refusal<P: Profile>(kind: Kind, message: &[u8]) -> Option<Fault> {
     match kind {
         Kind::Offer => read_offer::<P>(message).err(),
         Kind::Answer => read_answer::<P>(message).err(),

@@ -1,5 +1,5 @@
 // Whether the parts of a message give its bytes again.
-ghost use Rattle.std.specs.Prelude.{◌≡◌, OnOk};
+ghost use Rattle.std.specs.Prelude.{◌≡◌, MatchResult, OnOk};
 ghost use Rattle.message.specs.Messages.{encoded, offer, answer, confirmation};
 
 use crate::failure::Failure;
@@ -8,7 +8,7 @@ use profile::Profile;
 use std::alloc::Global;
 
 fn check_same(written: &[u8], message: &[u8]) -> Result<(), Failure>
-    ensures { OnOk result (written.now ≡ message.now) }
+    ensures { MatchResult result (λ _. written.now ≡ message.now) (λ _. written.now ≡ message.now → ⊥) }
 {
     if written == message {
         Ok(())
