@@ -5,7 +5,7 @@ use Rattle.std.proofs.lemmas.List.{length-append}
 use Rattle.std.proofs.lemmas.List.Sums.{prefix_len_stops}
 use Rattle.ring.specs.declared.fault.Fault.{Fault}
 use Rattle.profile.specs.Laws.{InRange}
-use Rattle.profile.specs.Lengths.{offer_length, answer_length, values_length, signals_length}
+use Rattle.message.specs.Lengths.{offer_length, answer_length, values_length, signals_length}
 use Rattle.profile.specs.declared.numbers.Numbers.{Numbers}
 use Rattle.packing.specs.Packing.{front_fitting, packed}
 use Rattle.message.specs.declared.kind.Kind.TheVariants.{Offer, Answer}

@@ -1,4 +1,5 @@
 pub mod Faults
+pub mod Lengths
 pub mod Messages
 pub mod Sections
 pub mod Writing

@@ -2,7 +2,7 @@
 use Rattle.std.specs.Prelude.{◌≡◌, ℕ, ◌+◌, ◌*◌, ◌/◌, ◌<◌, ◌≤◌, ◌⊎◌, List, [], ◌∷◌, length, slice_index, Ok, Some, None, false}
 use Rattle.profile.specs.Laws.{InRange}
 use Rattle.profile.specs.declared.numbers.Numbers.{Numbers}
-use Rattle.profile.specs.Lengths.{packed_length}
+use Rattle.packing.specs.Lengths.{packed_length}
 use Rattle.packing.specs.Packing.{AllFit}
 use Rattle.packing.specs.PackingLaws.{SpareClear, bit_of}
 use Rattle.message.specs.declared.fault.Fault.TheVariants.{WrongShape, WrongHead, SpareBit}

@@ -2,9 +2,10 @@
 use Rattle.std.specs.Prelude.{◌≡◌, ℕ, ◌+◌, ◌-◌, ◌*◌, ◌^◌, ◌==◌, List, Ok, Err, Result, Some, None, Option, drop, slice_index, nat_lt, if◌then◌else◌}
 use Rattle.std.specs.Borrow.{Bor}
 use Rattle.std.specs.Option.{option_or}
-use Rattle.profile.specs.Lengths.{values_length, signals_length}
+use Rattle.message.specs.Lengths.{values_length, signals_length}
 use Rattle.profile.specs.declared.numbers.Numbers.{Numbers}
 use Rattle.packing.specs.Packing.{number, unpacked}
+use Rattle.ring.specs.Faults.{unless}
 use Rattle.message.specs.declared.fault.Fault.{Fault}
 use Rattle.message.specs.declared.fault.Fault.TheVariants.{WrongHead, SpareBit}
 use Rattle.message.specs.declared.kind.Kind.{Kind}
@@ -70,10 +71,6 @@ reading_fault k kind message =
     option_or (shape_fault 0 (layout k kind) message)
     (option_or (head_fault k kind (head_of message))
     (spare_fault k kind message))
-
-abbrev pub unless : {X : Type 0} → Option Fault → X → Result X Fault
-unless None parts = Ok parts
-unless (Some fault) parts = Err fault
 
 -- what reading a message as one of a kind answers
 abbrev pub reading : Numbers → Kind → List ℕ → Result Message Fault

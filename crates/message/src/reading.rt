@@ -6,12 +6,13 @@ ghost use Rattle.message.specs.Messages.{answer, confirmation, encoded, offer};
 ghost use Rattle.message.specs.Reading.{IsOffer, IsAnswer, IsConfirmation, head_fault, read_as_offer, read_as_answer, read_as_confirmation, reading, reading_fault, round_in, spare_bit_fault};
 ghost use Rattle.message.specs.Shapes.{IsStretch, section_fault, shape_fault};
 ghost use Rattle.message.specs.declared.kind.Kind.TheVariants.{Offer, Answer, Confirmation};
-ghost use Rattle.profile.specs.Lengths.{signals_length};
+ghost use Rattle.message.specs.Lengths.{signals_length};
 
 use crate::fault::Fault;
 use crate::kind::Kind;
+use crate::lengths::{HEAD_LENGTH, SEED_LENGTH, signals_length, values_length};
 use crate::section::{AnswerSections, ConfirmationSections, OfferSections, Section};
-use profile::{HEAD_LENGTH, Profile, SEED_LENGTH, signals_length, values_length};
+use profile::Profile;
 
 // Reads a message as an offer.
 pub fn read_offer<P: Profile>(message: &[u8]) -> Result<OfferSections<'_>, Fault>

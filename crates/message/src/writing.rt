@@ -8,12 +8,14 @@ ghost use Rattle.message.specs.Writing.{write_answer};
 
 use crate::head::head;
 use crate::kind::Kind;
+use crate::lengths::{
+    answer_length, confirmation_length, offer_length, signals_length, values_length,
+};
 use crate::parts::{Answer, Confirmation, Offer};
 use crate::section_writing::{pack_section, write_section};
-use packing::{Fields, signals_width, values_width};
-use profile::{
-    Profile, answer_length, confirmation_length, offer_length, signals_length, values_length,
-};
+use crate::widths::{signals_width, values_width};
+use packing::Fields;
+use profile::Profile;
 use ring::Fault;
 
 impl Offer<'_> {

@@ -1,7 +1,7 @@
 -- The laws of packing.
 use Rattle.std.proofs.Common.{◌≡◌, ℕ, ◌+◌, ◌*◌, ◌^◌, ◌<◌, ◌≤◌, List, length, sym, ap, ◌∙◌, arith}
 use Rattle.std.specs.Int.{bit_at}
-use Rattle.profile.specs.Lengths.{packed_length}
+use Rattle.packing.specs.Lengths.{packed_length}
 use Rattle.packing.specs.Packing.{number, digits, packed, unpacked, AllFit}
 use Rattle.packing.specs.PackingLaws.{PackingIsLawful, PackingLaws, SpareClear, bit_of}
 use Rattle.packing.proofs.Bits.{bit_of_digit, bit_of_digits, bit_after, bit_of_bytes, below_from_bits}

@@ -1,3 +1,4 @@
+pub mod Lengths
 pub mod Packing
 pub mod PackingLaws
 pub mod Widths

@@ -1,7 +1,7 @@
 -- What packing is, bit by bit, and how it and unpacking undo each other.
 use Rattle.std.specs.Prelude.{◌≡◌, ℕ, ◌+◌, ◌*◌, ◌/◌, ◌%◌, ◌<◌, ◌≤◌, List, length, slice_index}
 use Rattle.std.specs.Int.{bit_at}
-use Rattle.profile.specs.Lengths.{packed_length}
+use Rattle.packing.specs.Lengths.{packed_length}
 use Rattle.packing.specs.Packing.{AllFit, packed, unpacked}
 
 -- bit j of bytes: each has eight of them, the low bit first

@@ -1,6 +1,6 @@
 // Widths, and the bytes that so many numbers of a width take.
 ghost use Rattle.std.specs.Prelude.{◌≡◌, ◌^◌, length, ltb};
-ghost use Rattle.profile.specs.Lengths.{packed_length};
+ghost use Rattle.packing.specs.Lengths.{packed_length};
 ghost use Rattle.packing.specs.Widths.{width_from};
 
 use crate::width::Width;

@@ -1,7 +1,7 @@
 // Packing: from numbers to bytes.
 ghost use Rattle.std.specs.Prelude.{◌≡◌, ◌≤◌, ◌<◌, All, IfOk, MatchResult, OnOk, length};
 ghost use Rattle.ring.specs.Faults.{after};
-ghost use Rattle.profile.specs.Lengths.{packed_length};
+ghost use Rattle.packing.specs.Lengths.{packed_length};
 ghost use Rattle.packing.specs.Packing.{AllFit, front_fitting, number, pack_answer, pack_numbers_answer, packed, unpacked};
 
 use crate::fields::Fields;

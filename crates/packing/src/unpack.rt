@@ -1,7 +1,7 @@
 // Unpacking: from bytes to numbers.
 ghost use Rattle.std.specs.Prelude.{◌≡◌, ◌%◌, ◌^◌, ◌≤◌, OnOk, length};
 ghost use Rattle.ring.specs.Faults.{after};
-ghost use Rattle.profile.specs.Lengths.{packed_length};
+ghost use Rattle.packing.specs.Lengths.{packed_length};
 ghost use Rattle.packing.specs.Packing.{AllFit, digits, packed, unpack_answer, unpacked};
 ghost use Rattle.packing.specs.PackingLaws.{SpareClear};
 

@@ -3,4 +3,3 @@ pub mod Laws
 pub mod Answers
 pub mod Secrets
 pub mod Places
-pub mod Lengths

@@ -1,6 +1,6 @@
 use Rattle.std.proofs.Common.{◌≡◌, None, Option, sym, rules}
 use Rattle.packing.proofs.Splitting.{bytes_fit}
-use Rattle.profile.specs.Lengths.{values_length, signals_length}
+use Rattle.message.specs.Lengths.{values_length, signals_length}
 use Rattle.message.specs.declared.fault.Fault.{Fault}
 use Rattle.message.specs.declared.kind.Kind.TheVariants.{Answer}
 use Rattle.message.specs.Reading.{answer_values_at, head_of, reading_fault, round_in, signals_at}

@@ -1,6 +1,6 @@
 use Rattle.std.proofs.Common.{◌≡◌, None, Option, sym, rules}
 use Rattle.packing.proofs.Splitting.{bytes_fit}
-use Rattle.profile.specs.Lengths.{values_length}
+use Rattle.message.specs.Lengths.{values_length}
 use Rattle.message.specs.declared.fault.Fault.{Fault}
 use Rattle.message.specs.declared.kind.Kind.TheVariants.{Offer}
 use Rattle.message.specs.Reading.{head_of, offer_values_at, reading_fault, round_in, seed_at}

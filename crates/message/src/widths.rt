@@ -1,7 +1,7 @@
 // The widths of what a profile packs.
 ghost use Rattle.std.specs.Prelude.{◌≡◌};
 
-use crate::width::Width;
+use packing::Width;
 use profile::Profile;
 
 // That of rounded values.

@@ -1,6 +1,6 @@
 use Rattle.std.proofs.Common.{arith}
 use Rattle.profile.proofs.Ranges.{packed_bits_most}
-use Rattle.profile.proofs.lengths.packed.Goals as goal
+use Rattle.message.proofs.lengths.packed.Goals as goal
 
 pub overflow_mul-NUMBERS : goal.overflow_mul-NUMBERS
 overflow_mul-NUMBERS g c =

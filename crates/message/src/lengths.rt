@@ -1,8 +1,9 @@
 // The lengths in bytes of a profile's messages and key.
 ghost use Rattle.std.specs.Prelude.{◌≡◌, ◌+◌, ◌≤◌};
-ghost use Rattle.profile.specs.Lengths.{packed_length, values_length, signals_length, section_length, offer_length, answer_length, confirmation_length, key_length};
+ghost use Rattle.packing.specs.Lengths.{packed_length};
+ghost use Rattle.message.specs.Lengths.{values_length, signals_length, section_length, offer_length, answer_length, confirmation_length, key_length};
 
-use crate::profile::Profile;
+use profile::Profile;
 
 // The bytes of a message's head.
 pub const HEAD_LENGTH: usize = 7;

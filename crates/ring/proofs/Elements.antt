@@ -1,0 +1,34 @@
+-- What the front of a list says: one that is the whole list, and one that ends before it.
+use Rattle.std.proofs.Common.{◌≡◌, ℕ, ◌<◌, ◌≤◌, ltb, Bool, true, List, length, take, length-take, arith}
+use Rattle.std.specs.Prelude.{All}
+use Rattle.std.specs.List.{prefix_len}
+use Rattle.std.proofs.lemmas.List.Elements.{All-from_get_or}
+use Rattle.std.proofs.lemmas.List.{get_or-take}
+use Rattle.std.proofs.lemmas.List.Sums.{prefix_len_passes, prefix_len_stops}
+use Rattle.std.proofs.lemmas.Bool.{ltb-true, ltb-false}
+use Rattle.ring.specs.Elements.{AllBelow, FirstNotBelow, front_below}
+
+-- ---- elements that pass a test, which says P of them
+
+module _ {X : Type 0} (p : X → Bool) (P : X → Type 0) (says : (x : X) → p x ≡ true → P x) (xs : List X) (d : X) where
+  pub whole_passes : length xs ≤ prefix_len p xs → All P xs
+  whole_passes h = All-from_get_or P xs d (λ k lt. says _ (prefix_len_passes p xs k d (omega arith)))
+
+  pub front_passes : prefix_len p xs ≤ length xs → All P (take (prefix_len p xs) xs)
+  front_passes h =
+      let i = prefix_len p xs in
+      All-from_get_or P (take i xs) d (λ k lt.
+      let inside : k < i = omega (arith, length-take i xs) in
+      rw (get_or-take i xs k d inside) (says _ (prefix_len_passes p xs k d inside)))
+
+-- ---- numbers below a bound
+
+pub all_below : (bound : ℕ) (xs : List ℕ) → length xs ≤ front_below bound xs → AllBelow bound xs
+all_below bound xs h = whole_passes (λ x. ltb x bound) (λ x. x < bound) (λ x t. ltb-true _ _ t) xs 0 h
+
+pub first_not_below : (bound : ℕ) (xs : List ℕ) → front_below bound xs < length xs → FirstNotBelow bound xs (front_below bound xs)
+first_not_below bound xs h = record {
+  inside = h;
+  before = front_passes (λ x. ltb x bound) (λ x. x < bound) (λ x t. ltb-true _ _ t) xs 0 (omega arith);
+  here = ltb-false _ _ (prefix_len_stops (λ x. ltb x bound) xs 0 h);
+}
