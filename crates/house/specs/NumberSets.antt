@@ -14,6 +14,7 @@ pub record Admissible (s : Sizes) : Type 0 where
   pub whole_bytes : (s.n * s.w) % 8 ≡ 0
   pub e_least : 1 ≤ s.e
   pub l_least : 1 ≤ s.l
+  pub byte_below : s.byte < 2 ^ 8
   -- two recovered values of one class are at most 2 rounding + 1 steps apart
   pub rounding_reaches : s.q ≤ s.p * (2 * s.rounding + 1)
   pub rounding_below : 2 * s.rounding < s.q

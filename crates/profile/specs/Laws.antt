@@ -32,6 +32,9 @@ pub record InRange (k : Numbers) : Type 0 where
   pub coins_most : k.coins ≤ 255
   pub width_least : 1 ≤ k.signal_width
   pub width_most : k.signal_width ≤ 8
+  -- the bytes that stand for the numbers and the reconciler in a message's head
+  pub numbers_byte_below : k.numbers_byte < 2 ^ 8
+  pub reconciler_byte_below : k.reconciler_byte < 2 ^ 8
 
 -- d is a multiple of step of size at most bound
 pub record MultipleWithin (step bound : ℕ) (d : ℤ) : Type 0 where

@@ -20,6 +20,7 @@ pub record SmallNumbers (k : ReconcilerNumbers) : Type 0 where
   pub coins_most : k.coins ≤ 255
   pub width_least : 1 ≤ k.signal_width
   pub width_most : k.signal_width ≤ 8
+  pub byte_below : k.byte < 2 ^ 8
   pub times_most : k.tolerance.times ≤ 16
   pub less_most : k.tolerance.less ≤ 16
   pub shift_most : k.tolerance.shift ≤ 16

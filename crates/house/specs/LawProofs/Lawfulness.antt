@@ -50,6 +50,8 @@ module _ (s : Sizes) (k : ReconcilerNumbers) (f : Reconciliation) (admits : Admi
     coins_most = sound.small.coins_most;
     width_least = sound.small.width_least;
     width_most = sound.small.width_most;
+    numbers_byte_below = admits.byte_below;
+    reconciler_byte_below = sound.small.byte_below;
   }
 
   pub house_lawful : Lawful (house_numbers s k) (house_functions s k f)

@@ -235,6 +235,7 @@ ding_sound = record {
     coins_most = lit≤ tt;
     width_least = lit≤ tt;
     width_most = lit≤ tt;
+    byte_below = lit< tt;
     times_most = lit≤ tt;
     less_most = lit≤ tt;
     shift_most = lit≤ tt;
