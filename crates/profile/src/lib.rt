@@ -3,6 +3,7 @@
 
 mod holding;
 mod lengths;
+mod moduli;
 mod numbers;
 mod place;
 mod profile;
@@ -13,6 +14,7 @@ pub use lengths::{
     HEAD_LENGTH, SEED_LENGTH, answer_length, confirmation_length, key_length, offer_length,
     signals_length, values_length,
 };
+pub use moduli::modulus;
 pub use numbers::Numbers;
 pub use place::Place;
 pub use profile::Profile;
