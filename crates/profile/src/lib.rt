@@ -4,6 +4,7 @@
 mod bounds;
 mod errors_and_coins;
 mod holding;
+mod moduli;
 mod numbers;
 mod place;
 mod profile;
@@ -12,6 +13,7 @@ mod sizes;
 
 pub use bounds::{Bounds, SecretBounds};
 pub use errors_and_coins::{coins_below, errors_within};
+pub use moduli::modulus;
 pub use numbers::Numbers;
 pub use place::Place;
 pub use profile::Profile;
