@@ -18,7 +18,9 @@ pub struct House<S, K> {
     parts: PhantomData<(S, K)>,
 }
 
-fn modulus<S: NumberSet>() -> Modulus
+// The modulus of a number set. `profile::modulus` gives the same of a profile, but the impl of Profile below cannot call it for
+// itself: the check covers no call that leads back to a method of the same impl.
+fn modulus_of<S: NumberSet>() -> Modulus
     ensures { result.q ≡ S.SIZES.q }
 {
     Modulus::new(S::SIZES.q).unwrap()
@@ -98,10 +100,10 @@ impl<S: NumberSet, K: Reconciler> Profile for House<S, K> {
     }
 
     fn reconcile(x: u32, coin: u8) -> Result<(u8, u8), Fault> {
-        K::reconcile(modulus::<S>(), x, coin)
+        K::reconcile(modulus_of::<S>(), x, coin)
     }
 
     fn read(y: u32, signal: u8) -> Result<u8, Fault> {
-        K::read(modulus::<S>(), y, signal)
+        K::read(modulus_of::<S>(), y, signal)
     }
 }
