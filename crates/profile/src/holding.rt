@@ -11,6 +11,8 @@ use std::alloc::{AllocError, Global};
 use std::marker::PhantomData;
 
 impl<P: SecretBounds> SecretPlace for Place<P> {
+    type Profile = P;
+
     ghost bounds = { P.BOUNDS };
 
     ghost held = { place_held };

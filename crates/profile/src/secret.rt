@@ -10,6 +10,9 @@ use std::alloc::{AllocError, Global};
 // A place is at every moment unfilled, with all its memory zero, or holds a lawful secret in it. A place that is let go
 // overwrites its memory first.
 pub trait SecretPlace: Drop {
+    // The profile that the place belongs to.
+    type Profile;
+
     ghost bounds: { Bounds };
 
     // the coefficients that are held, if any
