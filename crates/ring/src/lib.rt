@@ -5,7 +5,9 @@ mod fault;
 mod modulus;
 mod residue;
 mod scratch;
+mod theorems;
 
 pub use fault::Fault;
 pub use modulus::Modulus;
 pub use scratch::ScratchGuard;
+pub use theorems::residue_laws;
