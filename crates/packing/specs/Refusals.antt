@@ -1,4 +1,4 @@
--- What each answer of packing and unpacking says of what was handed in, every earlier test passed; no other answer is given.
+-- What each answer of packing and unpacking says of what was handed in, and which answers there are not.
 use Rattle.std.specs.Prelude.{◌≡◌, ◌≢◌, ℕ, ◌^◌, List, length, Ok, Err, Result}
 use Rattle.ring.specs.Elements.{FirstNotBelow}
 use Rattle.ring.specs.declared.fault.Fault.{Fault}
@@ -20,7 +20,8 @@ PackMeans w xs room (Err (SourceSpent i)) = ⊥
 abbrev pub PackNumbersMeans : (w : ℕ) → List ℕ → (room : ℕ) → Result (Unit {0}) Fault → Type 0
 PackNumbersMeans w xs room (Ok _) = (room ≡ packed_length (length xs) w) × AllFit w xs
 PackNumbersMeans w xs room (Err (WrongLength place)) = (room ≢ packed_length (length xs) w) × (place ≡ 4)
-PackNumbersMeans w xs room (Err (OutOfRange i)) = (room ≡ packed_length (length xs) w) × FirstNotBelow (2 ^ w) xs i
+PackNumbersMeans w xs room (Err (OutOfRange i)) =
+    (room ≡ packed_length (length xs) w) × FirstNotBelow (2 ^ w) xs i
 PackNumbersMeans w xs room (Err (SumTooLarge i)) = ⊥
 PackNumbersMeans w xs room (Err (CoinOutOfRange i)) = ⊥
 PackNumbersMeans w xs room (Err (SourceSpent i)) = ⊥
@@ -37,13 +38,16 @@ UnpackMeans w bytes many (Err (SourceSpent i)) = ⊥
 -- for numbers of w bits
 pub record PackingRefusals (w : ℕ) : Type 0 where
   pub pack_means : (xs : List ℕ) (room : ℕ) → PackMeans w xs room (pack_answer w xs room)
-  pub pack_numbers_means : (xs : List ℕ) (room : ℕ) → PackNumbersMeans w xs room (pack_numbers_answer w xs room)
+  pub pack_numbers_means :
+      (xs : List ℕ) (room : ℕ) → PackNumbersMeans w xs room (pack_numbers_answer w xs room)
   pub unpack_means : (bytes : List ℕ) (many : ℕ) → UnpackMeans w bytes many (unpack_answer w bytes many)
   -- what is right is accepted
   pub packs : (xs : List ℕ) (room : ℕ) → room ≡ packed_length (length xs) w → pack_answer w xs room ≡ Ok tt
   pub packs_numbers :
-      (xs : List ℕ) (room : ℕ) → room ≡ packed_length (length xs) w → AllFit w xs → pack_numbers_answer w xs room ≡ Ok tt
-  pub unpacks : (bytes : List ℕ) (many : ℕ) → length bytes ≡ packed_length many w → unpack_answer w bytes many ≡ Ok tt
+      (xs : List ℕ) (room : ℕ) → room ≡ packed_length (length xs) w → AllFit w xs →
+      pack_numbers_answer w xs room ≡ Ok tt
+  pub unpacks :
+      (bytes : List ℕ) (many : ℕ) → length bytes ≡ packed_length many w → unpack_answer w bytes many ≡ Ok tt
 
 -- for every width
 abbrev pub PackingRefusesTheFirst : Type 0

@@ -8,7 +8,7 @@ pub fn packing_is_lawful()
     ensures { PackingIsLawful }
 {}
 
-// Each answer of packing and unpacking says what was wrong first, or that nothing was; and what is right is accepted.
+// Each answer of packing and unpacking says that all is right, or what is wrong first; and what is right is accepted.
 #[tactic(auto, using(crate::proofs::Refusals::packing_refuses_the_first))]
 pub fn packing_refuses_the_first()
     ensures { PackingRefusesTheFirst }
