@@ -25,4 +25,4 @@ pub use parts::{Answer, Confirmation, Offer};
 pub use reading::{read_answer, read_confirmation, read_offer};
 pub use section::{AnswerSections, ConfirmationSections, OfferSections, Section};
 pub use theorems::message_laws;
-pub use widths::{signals_width, values_width};
+pub use widths::{key_width, signals_width, values_width};

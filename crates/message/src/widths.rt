@@ -17,3 +17,10 @@ pub fn signals_width<P: Profile>() -> Width
 {
     Width::new(P::NUMBERS.signal_width).unwrap()
 }
+
+// That of key bits, in every profile.
+pub fn key_width() -> Width
+    ensures { result.bits ≡ 1 }
+{
+    Width::new(1).unwrap()
+}

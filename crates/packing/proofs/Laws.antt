@@ -44,6 +44,8 @@ module _ (w : ℕ) where
 
   laws : PackingLaws w
   laws = record {
+    enough_bytes = room;
+    no_byte_more = λ many. omega arith;
     in_place = λ xs i k fit inside low. bits_packed xs (i * w + k) fit ∙ bit_of_digit w xs i k fit inside low;
     spare_clear = λ xs fit j after. bits_packed xs j fit ∙ bit_after w xs j fit after;
     read_in_place = λ many bytes i k fit inside low. bit_of_digits w many (number 8 bytes) i k inside low ∙ sym (bit_of_bytes bytes (i * w + k) fit);

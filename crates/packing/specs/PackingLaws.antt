@@ -14,6 +14,9 @@ SpareClear w many bytes = (j : ℕ) → many * w ≤ j → bit_of bytes j ≡ 0
 
 -- for numbers of w bits
 pub record PackingLaws (w : ℕ) : Type 0 where
+  -- as many bytes as the bits need, and no byte more
+  pub enough_bytes : (many : ℕ) → many * w ≤ packed_length many w * 8
+  pub no_byte_more : (many : ℕ) → packed_length many w * 8 < many * w + 8
   -- number i is at the bits i w .. i w + w - 1
   pub in_place : (xs : List ℕ) (i k : ℕ) → AllFit w xs → i < length xs → k < w → bit_of (packed w xs) (i * w + k) ≡ bit_at (slice_index xs i) k
   -- and nothing is after them

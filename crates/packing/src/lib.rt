@@ -9,5 +9,5 @@ mod unpack;
 mod width;
 
 pub use fields::Fields;
-pub use theorems::packing_is_lawful;
+pub use theorems::{packing_is_lawful, packing_refuses_the_first};
 pub use width::Width;
