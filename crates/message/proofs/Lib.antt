@@ -8,6 +8,7 @@ pub mod LeastPlaces
 pub mod Accepting
 pub mod SpareLaws
 pub mod WrongHeads
+pub mod ReadingLaws
 pub mod Laws
 pub mod Lines
 pub mod SpareBits

@@ -7,4 +7,5 @@ pub mod Lines
 pub mod Parts
 pub mod Shapes
 pub mod Reading
+pub mod ReadingLaws
 pub mod MessageLaws
