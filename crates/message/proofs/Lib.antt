@@ -5,6 +5,7 @@ pub mod ReadBack
 pub mod WrittenAgain
 pub mod Alike
 pub mod LeastPlaces
+pub mod WritingLaws
 pub mod Accepting
 pub mod SpareLaws
 pub mod WrongHeads

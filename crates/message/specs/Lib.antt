@@ -3,6 +3,7 @@ pub mod Lengths
 pub mod Messages
 pub mod Sections
 pub mod Writing
+pub mod WritingLaws
 pub mod Lines
 pub mod Parts
 pub mod Shapes

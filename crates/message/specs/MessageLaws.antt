@@ -7,10 +7,12 @@ use Rattle.packing.specs.Packing.{AllFit}
 use Rattle.packing.specs.PackingLaws.{SpareClear, bit_of}
 use Rattle.message.specs.declared.fault.Fault.TheVariants.{WrongShape, WrongHead, SpareBit}
 use Rattle.message.specs.declared.kind.Kind.{Kind}
+use Rattle.message.specs.Lines.{LineTakesItsLength}
 use Rattle.message.specs.Messages.{Message, HasLawfulParts, IsRound, encoded, kind_of, round_of}
 use Rattle.message.specs.Reading.{head_fault, reading, spare_bit_fault}
 use Rattle.message.specs.ReadingLaws.{FaultMeans, HeadIsWrongAt, ReadingRefusesTheFirst, ShapeIsWrongAt}
 use Rattle.message.specs.Writing.{message_length, write_answer}
+use Rattle.message.specs.WritingLaws.{WritingAcceptsWhatFits, WritingRefusesTheFirst}
 use Rattle.message.specs.Shapes.{shape_fault}
 
 -- a written message reads back to its parts
@@ -43,9 +45,10 @@ pub record TellsSpareBits (n w at : ℕ) (bytes : List ℕ) : Type 0 where
   pub none_is_refused : SpareClear w n bytes → spare_bit_fault n w at (packed_length n w) bytes ≡ None
   pub at_its_byte : (j : ℕ) → n * w ≤ j → (bit_of bytes j ≡ 0 → ⊥) → spare_bit_fault n w at (packed_length n w) bytes ≡ Some (SpareBit (at + j / 8))
 
--- lawful parts are written, into as many bytes as a message of the kind has
+-- lawful parts are written, as bytes, and as many of them as a message of the kind has
 pub record WritesLawfulParts (k : Numbers) (m : Message) : Type 0 where
   pub length : length (encoded k m) ≡ message_length k (kind_of m)
+  pub is_bytes : AllFit 8 (encoded k m)
   pub accepted : write_answer k m (message_length k (kind_of m)) ≡ Ok tt
 
 pub record MessageLaws : Type 0 where
@@ -53,6 +56,9 @@ pub record MessageLaws : Type 0 where
   pub reads_back : (k : Numbers) → InRange k → ReadsBack k
   pub is_written_from_its_parts : (k : Numbers) → InRange k → IsWrittenFromItsParts k
   pub tells_kind_profile_and_round : TellsKindProfileAndRound
+  pub writing_refuses_the_first : WritingRefusesTheFirst
+  pub writing_accepts_what_fits : WritingAcceptsWhatFits
+  pub line_takes_its_length : LineTakesItsLength
   pub reading_refuses_the_first : ReadingRefusesTheFirst
   pub tells_wrong_shapes : (at : ℕ) (layout message : List ℕ) → FaultMeans WrongShape (ShapeIsWrongAt at layout message) (shape_fault at layout message)
   pub tells_wrong_heads : (k : Numbers) (kind : Kind) (h : List ℕ) → FaultMeans WrongHead (HeadIsWrongAt k kind h) (head_fault k kind h)
