@@ -54,8 +54,8 @@ FirstWrongLength n need left right scratch output place =
     ⊎ ((right ≡ n) × (((place ≡ 3) × (scratch < need))
     ⊎ ((need ≤ scratch) × (place ≡ 4) × (output ≢ n))))))
 
--- place is that of the first number that is not below q: i in the left list, or n + i in the right one, where the whole left
--- list is below q
+-- place is that of the first number that is not below q: i in the left list, or n + i in the right one, where all of the
+-- left are below q
 abbrev pub FirstOutOfRange : (n q : ℕ) (left right : List ℕ) (place : ℕ) → Type 0
 FirstOutOfRange n q left right place =
     FirstNotBelow q left place
