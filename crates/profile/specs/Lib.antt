@@ -3,3 +3,4 @@ pub mod Laws
 pub mod Answers
 pub mod Secrets
 pub mod Places
+pub mod LawProofs

@@ -1,13 +1,19 @@
 // What a profile is: its numbers, its functions and its laws; and where a secret of it is held.
 #![tactic(auto)]
 
+mod bounds;
+mod errors_and_coins;
 mod holding;
+mod moduli;
 mod numbers;
 mod place;
 mod profile;
 mod secret;
 mod sizes;
 
+pub use bounds::{Bounds, SecretBounds};
+pub use errors_and_coins::{coins_below, errors_within};
+pub use moduli::modulus;
 pub use numbers::Numbers;
 pub use place::Place;
 pub use profile::Profile;

@@ -1,10 +1,12 @@
 // Filling and erasing a secret place.
-use profile::{Place, SecretPlace};
+use house::{House, S};
+use profile::{Profile, SecretPlace};
+use reconcile::Ding;
 use ring::Fault;
 use std::test::Fail;
 
-// The place of a secret of the number set S.
-type SecretOfS = Place<512, 2, 191>;
+// The place of a secret of the profile of S with Ding.
+type SecretOfS = <House<S, Ding> as Profile>::Secret;
 
 // 512 coefficients, of which the first `many` are `value`.
 fn leading(many: usize, value: i32) -> [i32; 512] {

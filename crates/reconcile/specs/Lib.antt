@@ -1,4 +1,5 @@
 pub mod Reconcilers
 pub mod Ding
 pub mod Okcn
+pub mod EveryModulus
 pub mod LawProofs

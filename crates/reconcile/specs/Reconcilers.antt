@@ -35,7 +35,8 @@ pub record Reconciles (k : ReconcilerNumbers) (f : Reconciliation) (q : ℕ) : T
   pub reads_within : ReadsWithin q k.coins (f.signal q) (f.key_bit q) k.step (tolerance k q) (f.read q)
   pub balanced : Balanced q k.coins (f.signal q) (f.key_bit q) k.signal_width
 
--- a reconciler, for every modulus
+-- a reconciler, for every modulus with floor(q / 8) at least 1, as that of each number set is. It need not be one at 3, 5 and
+-- 7: a reconciler that tolerates floor(q / 8) - 1 may break a law there
 pub record Sound (k : ReconcilerNumbers) (f : Reconciliation) : Type 0 where
   pub small : SmallNumbers k
-  pub at : (q : ℕ) → IsModulus q → Reconciles k f q
+  pub at : (q : ℕ) → IsModulus q → 1 ≤ q / 8 → Reconciles k f q

@@ -1,12 +1,12 @@
 -- What the front of a list says: one that is the whole list, and one that ends before it.
-use Rattle.std.proofs.Common.{◌≡◌, ℕ, ◌<◌, ◌≤◌, ltb, Bool, true, List, length, get_or, take, length-take, ⊎_elim, arith}
+use Rattle.std.proofs.Common.{inl, inr, ⊎_elim, ◌⊎◌, ◌≡◌, ℕ, ◌<◌, ◌≤◌, ltb, Bool, true, List, length, get_or, take, length-take, arith}
 use Rattle.std.specs.Prelude.{All}
 use Rattle.std.specs.List.{prefix_len}
 use Rattle.std.proofs.lemmas.List.Elements.{All-from_get_or}
 use Rattle.std.proofs.lemmas.List.{get_or-take}
-use Rattle.std.proofs.lemmas.List.Sums.{prefix_len_passes, prefix_len_stops}
-use Rattle.std.proofs.lemmas.Bool.{ltb-true, ltb-false, cases_lt}
-use Rattle.ring.specs.Elements.{AllBelow, FirstNotBelow, front_below}
+use Rattle.std.proofs.lemmas.List.Sums.{prefix_len_passes, prefix_len_stops, prefix_len-le-length}
+use Rattle.std.proofs.lemmas.Bool.{ltb-true, ltb-false, cases_eq, cases_lt}
+use Rattle.ring.specs.Elements.{AllBelow, FirstNotBelow, IsFrontBelow, front_below}
 
 -- ---- elements that pass a test, which says P of them
 
@@ -32,6 +32,19 @@ first_not_below bound xs h = record {
   before = front_passes (λ x. ltb x bound) (λ x. x < bound) (λ x t. ltb-true _ _ t) xs 0 (omega arith);
   here = ltb-false _ _ (prefix_len_stops (λ x. ltb x bound) xs 0 h);
 }
+
+-- a front is the whole list, or shorter
+pub whole_or_first : {X : Type 0} (p : X → Bool) (xs : List X) → (prefix_len p xs ≡ length xs) ⊎ (prefix_len p xs < length xs)
+whole_or_first p xs =
+    let most = prefix_len-le-length p xs in
+    ⊎_elim (λ e. inl e) (λ other. inr (omega arith)) (cases_eq (prefix_len p xs) (length xs))
+
+pub is_front_below : (bound : ℕ) (xs : List ℕ) → IsFrontBelow bound xs (front_below bound xs)
+is_front_below bound xs =
+    ⊎_elim
+    (λ whole. inl (whole, all_below bound xs (omega arith)))
+    (λ shorter. inr (first_not_below bound xs shorter))
+    (whole_or_first (λ x. ltb x bound) xs)
 
 -- ---- and back: how many come before the first that is not below the bound
 

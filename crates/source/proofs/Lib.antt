@@ -1,7 +1,6 @@
 pub mod BitCounts
 pub mod Groups
 pub mod Keeping
-pub mod Ranges
 pub mod Laws
 pub mod Squeezing
 pub mod Ends

@@ -9,18 +9,10 @@ ghost use Rattle.source.specs.Laws.{DeriveMeans};
 use crate::sampler::Sampler;
 use crate::source::ByteSource;
 use profile::Profile;
-use ring::{Fault, Modulus};
+use ring::Fault;
 
 // No profile has a larger n.
 const ROOM: usize = 1024;
-
-// The modulus of the profile.
-#[tactic(auto, using(crate::proofs::Ranges::q_least))]
-fn modulus<P: Profile>() -> Modulus
-    ensures { result.q ≡ P.NUMBERS.q }
-{
-    Modulus::new(P::NUMBERS.q).unwrap()
-}
 
 // The element of the seed.
 #[tactic(auto, using(profile::proofs::Ranges::n_most, crate::proofs::Laws::answer_means))]
@@ -44,5 +36,5 @@ pub fn derive<P: Profile, S: ByteSource>(
     }
     source.begin(seed);
     let mut room = [0; ROOM];
-    Sampler::below(modulus::<P>()).fill_through(source, &mut room, output)
+    Sampler::below(profile::modulus::<P>()).fill_through(source, &mut room, output)
 }

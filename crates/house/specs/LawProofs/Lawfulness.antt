@@ -1,7 +1,7 @@
 -- A number set and a reconciler make a lawful profile.
 use Rattle.std.proofs.Common.{⊎_elim, sym, ap, ◌∙◌, mul-add, mul_left_comm, mul-le-mul_left, arith, pow_mono}
 use Rattle.std.specs.Prelude.{◌≡◌, ◌+◌, ◌-◌, ◌*◌, ◌/◌, ◌^◌, ◌<◌, ◌≤◌}
-use Rattle.std.proofs.lemmas.Nat.{pow_pos}
+use Rattle.std.proofs.lemmas.Nat.{mul-le, pow_pos}
 use Rattle.profile.specs.Laws.{InRange, Lawful}
 use Rattle.house.specs.LawProofs.Roundings.{recover_range, round_within, round_near}
 use Rattle.house.specs.House.{house_numbers, house_functions}
@@ -17,9 +17,15 @@ module _ (s : Sizes) (admits : Admissible s) where
   pub p_small : s.p < 2 ^ 15
   p_small = omega (arith, admits.p_is, pow_mono admits.w_most, pow_pos s.w)
 
+  -- what two products can differ by is no less than one error, so that an eighth of the circle holds it
+  pub eighth_some : 1 ≤ s.q / 8
+  eighth_some =
+      let one : (2 * 1) * 1 ≤ (2 * s.l) * (s.e + s.rounding) = mul-le (2 * 1) 1 (2 * s.l) (s.e + s.rounding) (omega (arith, admits.l_least)) (omega (arith, admits.e_least)) in
+      omega (arith, admits.within_eighth)
+
 module _ (s : Sizes) (k : ReconcilerNumbers) (f : Reconciliation) (admits : Admissible s) (sound : Sound k f) where
   reconciles : Reconciles k f s.q
-  reconciles = sound.at s.q admits.modulus
+  reconciles = sound.at s.q admits.modulus (eighth_some s admits)
 
   positive : 0 < s.p
   positive = p_positive s admits

@@ -240,5 +240,5 @@ ding_sound = record {
     less_most = lit≤ tt;
     shift_most = lit≤ tt;
   };
-  at = ding_reconciles;
+  at = λ q is eighth. ding_reconciles q is;
 }

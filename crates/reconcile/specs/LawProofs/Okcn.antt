@@ -162,5 +162,5 @@ okcn_sound = record {
     less_most = lit≤ tt;
     shift_most = lit≤ tt;
   };
-  at = okcn_reconciles;
+  at = λ q is eighth. okcn_reconciles q is;
 }
