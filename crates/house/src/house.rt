@@ -99,11 +99,11 @@ impl<S: NumberSet, K: Reconciler> Profile for House<S, K> {
         Ok(rounding::<S, K>().recover(y))
     }
 
-    fn reconcile(x: u32, coin: u8) -> Result<(u8, u8), Fault> {
+    fn reconcile(x: u32, coin: u8) -> Result<(u32, u32), Fault> {
         K::reconcile(modulus_of::<S>(), x, coin)
     }
 
-    fn read(y: u32, signal: u8) -> Result<u8, Fault> {
+    fn read(y: u32, signal: u32) -> Result<u32, Fault> {
         K::read(modulus_of::<S>(), y, signal)
     }
 }

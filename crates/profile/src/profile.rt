@@ -37,11 +37,11 @@ pub trait Profile {
         ensures { result ≡ recover_answer NUMBERS functions y };
 
     // The signal and the key bit of a residue and a coin.
-    fn reconcile(x: u32, coin: u8) -> Result<(u8, u8), Fault>
+    fn reconcile(x: u32, coin: u8) -> Result<(u32, u32), Fault>
         ensures { result ≡ reconcile_answer NUMBERS functions x coin };
 
     // The key bit that a residue and the other end's signal give.
-    fn read(y: u32, signal: u8) -> Result<u8, Fault>
+    fn read(y: u32, signal: u32) -> Result<u32, Fault>
         ensures { result ≡ read_answer NUMBERS functions y signal };
 
     ghost lawful: { Lawful NUMBERS functions };

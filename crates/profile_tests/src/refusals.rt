@@ -31,6 +31,15 @@ fn signals_and_coins_out_of_range(rt: HostRuntime) {
     assert_eq!(rt; House::<S, Ding>::read(0, 2), Err(Fault::OutOfRange(0)));
     assert_eq!(rt; House::<S, Okcn>::read(0, 4), Err(Fault::OutOfRange(0)));
     assert_eq!(rt;
+        House::<S, Ding>::read(0, 256),
+        Err(Fault::OutOfRange(0)),
+        "the low byte alone would be a signal"
+    );
+    assert_eq!(rt;
+        House::<S, Okcn>::read(0, u32::MAX),
+        Err(Fault::OutOfRange(0))
+    );
+    assert_eq!(rt;
         House::<S, Ding>::reconcile(0, 2),
         Err(Fault::CoinOutOfRange(0))
     );

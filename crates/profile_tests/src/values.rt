@@ -10,21 +10,21 @@ struct Expected {
     rounded: u32,
     recovered: u32,
     // signal and key bit
-    coin_0: (u8, u8),
-    coin_1: (u8, u8),
+    coin_0: (u32, u32),
+    coin_1: (u32, u32),
     // the key bit that is read with the first and with the last signal
-    read_first: u8,
-    read_last: u8,
+    read_first: u32,
+    read_last: u32,
 }
 
 fn row(
     x: u32,
     rounded: u32,
     recovered: u32,
-    coin_0: (u8, u8),
-    coin_1: (u8, u8),
-    read_first: u8,
-    read_last: u8,
+    coin_0: (u32, u32),
+    coin_1: (u32, u32),
+    read_first: u32,
+    read_last: u32,
 ) -> Expected {
     Expected {
         x,
@@ -37,7 +37,7 @@ fn row(
     }
 }
 
-fn agrees<P: Profile>(rt: &impl Abort, rows: &[Expected], last_signal: u8) {
+fn agrees<P: Profile>(rt: &impl Abort, rows: &[Expected], last_signal: u32) {
     for row in rows {
         assert_eq!(rt; P::round(row.x), Ok(row.rounded));
         assert_eq!(rt; P::recover(row.rounded), Ok(row.recovered));

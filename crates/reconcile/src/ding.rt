@@ -9,13 +9,13 @@ use ring::{Fault, Modulus};
 pub struct Ding;
 
 // The parity of the signed form of y, which a signal of 1 moves by (q - 1) / 2.
-fn key_bit(q: Modulus, y: u32, signal: u8) -> u8
+fn key_bit(q: Modulus, y: u32, signal: u32) -> u32
     requires inside { y < q.q }
     requires small { signal < 2 }
     ensures { result ≡ ding_read q.q y signal }
 {
-    let moved = (y + u32::from(signal) * ((q.value() - 1) / 2)) % q.value();
-    (q.signed(moved).unwrap().unsigned_abs() % 2) as u8
+    let moved = (y + signal * ((q.value() - 1) / 2)) % q.value();
+    q.signed(moved).unwrap().unsigned_abs() % 2
 }
 
 impl Reconciler for Ding {
@@ -37,7 +37,7 @@ impl Reconciler for Ding {
 
     ghost sound = { ding_sound };
 
-    fn reconcile(q: Modulus, x: u32, coin: u8) -> Result<(u8, u8), Fault> {
+    fn reconcile(q: Modulus, x: u32, coin: u8) -> Result<(u32, u32), Fault> {
         let s = q.signed(x)?;
         let r = (q.value() / 4) as i32;
         let signal = match coin {
@@ -50,7 +50,7 @@ impl Reconciler for Ding {
         Ok((signal, key_bit(q, x, signal)))
     }
 
-    fn read(q: Modulus, y: u32, signal: u8) -> Result<u8, Fault> {
+    fn read(q: Modulus, y: u32, signal: u32) -> Result<u32, Fault> {
         if y >= q.value() || signal > 1 {
             return Err(Fault::OutOfRange(0));
         }

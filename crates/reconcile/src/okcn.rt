@@ -9,7 +9,7 @@ use ring::{Fault, Modulus};
 pub struct Okcn;
 
 // Which of the four bands of 0..q has `rest`; no division.
-fn band(q: u32, rest: u32) -> u8
+fn band(q: u32, rest: u32) -> u32
     requires inside { rest < q }
     requires below { q < 2 ^ 23 }
     ensures { result ≡ 4 * rest / q }
@@ -41,7 +41,7 @@ impl Reconciler for Okcn {
 
     ghost sound = { okcn_sound };
 
-    fn reconcile(q: Modulus, x: u32, coin: u8) -> Result<(u8, u8), Fault> {
+    fn reconcile(q: Modulus, x: u32, coin: u8) -> Result<(u32, u32), Fault> {
         let q = q.value();
         if x >= q {
             return Err(Fault::OutOfRange(0));
@@ -56,14 +56,14 @@ impl Reconciler for Okcn {
         Ok((band(q, rest), key_bit))
     }
 
-    fn read(q: Modulus, y: u32, signal: u8) -> Result<u8, Fault> {
+    fn read(q: Modulus, y: u32, signal: u32) -> Result<u32, Fault> {
         if y >= q.value() || signal > 3 {
             return Err(Fault::OutOfRange(0));
         }
         let q = q.value() as i32;
         let y = y as i32;
-        let signal = i32::from(signal);
+        let signal = signal as i32;
         let floor = (16 * y + q * (3 - 2 * signal)).div_euclid(8 * q);
-        Ok(floor.rem_euclid(2) as u8)
+        Ok(floor.rem_euclid(2) as u32)
     }
 }

@@ -57,7 +57,7 @@ fn print_lengths<P: Profile>(rt: &impl Print) -> io::Result<()> {
     print_row(rt, "key bytes", key_length::<P>())
 }
 
-fn print_keys<P: Profile>(rt: &impl Print, coin: u8, signal: u8) -> Result<(), Failure> {
+fn print_keys<P: Profile>(rt: &impl Print, coin: u8, signal: u32) -> Result<(), Failure> {
     let keys = count_keys::<P>(coin, signal)?;
     println!(rt;
         "  coin {coin} signal {signal}     key 0: {}, key 1: {}",

@@ -19,15 +19,15 @@ pub fn last_coin<P: Profile>() -> u8
 }
 
 // The largest signal.
-pub fn last_signal<P: Profile>() -> u8
+pub fn last_signal<P: Profile>() -> u32
     ensures { result ≡ 2 ^ P.NUMBERS.signal_width - 1 }
 {
-    ((1u32 << P::NUMBERS.signal_width) - 1) as u8
+    (1u32 << P::NUMBERS.signal_width) - 1
 }
 
 // How many residues a coin gives this signal with key bit 0, and how many with key bit 1.
 #[tactic(auto, using(crate::proofs::Measures::count_more))]
-pub fn count_keys<P: Profile>(coin: u8, signal: u8) -> Result<KeyCounts, Fault>
+pub fn count_keys<P: Profile>(coin: u8, signal: u32) -> Result<KeyCounts, Fault>
     ensures { result ≡ keys_answer P.NUMBERS P.functions coin signal }
 {
     if signal > last_signal::<P>() {
