@@ -5,7 +5,7 @@ use Rattle.std.proofs.lemmas.Bool.{and_from, and_parts, both_ways, cond_both, eq
 use Rattle.packing.specs.Packing.{number}
 use Rattle.message.specs.declared.fault.Fault.{Fault}
 use Rattle.message.specs.declared.fault.Fault.TheVariants.{WrongShape}
-use Rattle.message.specs.ReadingLaws.{FaultMeans, FirstAt, HasCount, ShapeIsWrongAt}
+use Rattle.message.specs.ReadingLaws.{FaultMeans, FirstAt, HasCount, ShapeIsWrongAt, TellsWrongShapes}
 use Rattle.message.specs.Sections.{stretch}
 use Rattle.message.specs.Shapes.{is_counted, shape_fault}
 
@@ -53,7 +53,7 @@ module _ (at many : ℕ) (rest message : List ℕ) (counted : HasCount at many m
   from_cut place (inr (inl short)) = omega (arith, short.0)
   from_cut place (inr (inr later)) = omega (arith, after_start (at + 2 + many) rest message place later)
 
-pub tells_wrong_shapes : (at : ℕ) (layout message : List ℕ) → FaultMeans WrongShape (ShapeIsWrongAt at layout message) (shape_fault at layout message)
+pub tells_wrong_shapes : TellsWrongShapes
 tells_wrong_shapes at [] message =
     let Wrong = ShapeIsWrongAt at [] message in
     cond_both (leb (length message) at) _ _ (FaultMeans WrongShape Wrong)

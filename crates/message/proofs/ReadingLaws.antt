@@ -14,7 +14,7 @@ use Rattle.message.specs.declared.kind.Kind.{Kind}
 use Rattle.message.specs.declared.kind.Kind.TheVariants.{Offer, Answer, Confirmation}
 use Rattle.message.specs.Lengths.{signals_length, values_length}
 use Rattle.message.specs.Messages.{Message}
-use Rattle.message.specs.Reading.{head_fault, head_of, parts, reading, signals_at, signals_of, spare_fault}
+use Rattle.message.specs.Reading.{head_fault, head_of, parts, reading, signals_at, signal_bytes, spare_fault}
 use Rattle.message.specs.ReadingLaws.{FaultMeans, Nowhere, ReadingMeans, SpareBitAt, WrongHeadAt, WrongShapeAt}
 use Rattle.message.specs.Shapes.{layout, shape_fault}
 use Rattle.message.proofs.LeastPlaces.{tells_wrong_shapes}
@@ -37,9 +37,9 @@ module _ (k : Numbers) where
   spare_means Answer message fit right =
       let rest = drop (signals_at k) message in
       let few = signals_length k in
-      let long : length (signals_of k message) ≡ few = length-take-le few rest (omega (arith, length-drop (signals_at k) message, signals_inside k message right)) in
-      let fits : AllFit 8 (signals_of k message) = All-take (λ b. b < 2 ^ 8) few rest (All-drop (λ b. b < 2 ^ 8) (signals_at k) message fit) in
-      names_spare_bit k.n k.signal_width (signals_at k) (signals_of k message) fits long
+      let long : length (signal_bytes k message) ≡ few = length-take-le few rest (omega (arith, length-drop (signals_at k) message, signals_inside k message right)) in
+      let fits : AllFit 8 (signal_bytes k message) = All-take (λ b. b < 2 ^ 8) few rest (All-drop (λ b. b < 2 ^ 8) (signals_at k) message fit) in
+      names_spare_bit k.n k.signal_width (signals_at k) (signal_bytes k message) fits long
   spare_means Confirmation message fit right = λ place wrong. wrong
 
   -- three tests, one after another

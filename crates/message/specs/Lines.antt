@@ -2,7 +2,8 @@
 use Rattle.std.specs.Prelude.{◌≡◌, ◌≢◌, ℕ, ◌+◌, ◌*◌, List, [], ◌∷◌, ◌++◌, length, ◌==◌, Ok, Err, Result}
 use Rattle.ring.specs.Faults.{checked}
 use Rattle.ring.specs.declared.fault.Fault.{Fault}
-use Rattle.ring.specs.declared.fault.Fault.TheVariants.{WrongLength, OutOfRange, SumTooLarge, CoinOutOfRange, SourceSpent}
+use Rattle.ring.specs.declared.fault.Fault.TheVariants.{WrongLength, OutOfRange}
+use Rattle.ring.specs.declared.fault.Fault.TheVariants.{SumTooLarge, CoinOutOfRange, SourceSpent}
 use Rattle.hex.specs.Hex.{encode_lower}
 
 -- the word, a space, the bytes in lower-case hexadecimal, and a newline
@@ -23,4 +24,5 @@ LineMeans word bytes room (Err (SourceSpent place)) = ⊥
 
 -- every word and bytes, into any room
 abbrev pub LineTakesItsLength : Type 0
-LineTakesItsLength = (word bytes : List ℕ) (room : ℕ) → LineMeans word bytes room (line_answer word bytes room)
+LineTakesItsLength =
+    (word bytes : List ℕ) (room : ℕ) → LineMeans word bytes room (line_answer word bytes room)

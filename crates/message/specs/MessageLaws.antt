@@ -5,15 +5,14 @@ use Rattle.profile.specs.declared.numbers.Numbers.{Numbers}
 use Rattle.packing.specs.Lengths.{packed_length}
 use Rattle.packing.specs.Packing.{AllFit}
 use Rattle.packing.specs.PackingLaws.{SpareClear, bit_of}
-use Rattle.message.specs.declared.fault.Fault.TheVariants.{WrongShape, WrongHead, SpareBit}
+use Rattle.message.specs.declared.fault.Fault.TheVariants.{SpareBit}
 use Rattle.message.specs.declared.kind.Kind.{Kind}
 use Rattle.message.specs.Lines.{LineTakesItsLength}
 use Rattle.message.specs.Messages.{Message, HasLawfulParts, IsRound, encoded, kind_of, round_of}
-use Rattle.message.specs.Reading.{head_fault, reading, spare_bit_fault}
-use Rattle.message.specs.ReadingLaws.{FaultMeans, HeadIsWrongAt, ReadingRefusesTheFirst, ShapeIsWrongAt}
+use Rattle.message.specs.Reading.{reading, spare_bit_fault}
+use Rattle.message.specs.ReadingLaws.{ReadingRefusesTheFirst, TellsWrongHeads, TellsWrongShapes}
 use Rattle.message.specs.Writing.{message_length, write_answer}
 use Rattle.message.specs.WritingLaws.{WritingAcceptsWhatFits, WritingRefusesTheFirst}
-use Rattle.message.specs.Shapes.{shape_fault}
 
 -- a written message reads back to its parts
 abbrev pub ReadsBack : Numbers → Type 0
@@ -60,6 +59,6 @@ pub record MessageLaws : Type 0 where
   pub writing_accepts_what_fits : WritingAcceptsWhatFits
   pub line_takes_its_length : LineTakesItsLength
   pub reading_refuses_the_first : ReadingRefusesTheFirst
-  pub tells_wrong_shapes : (at : ℕ) (layout message : List ℕ) → FaultMeans WrongShape (ShapeIsWrongAt at layout message) (shape_fault at layout message)
-  pub tells_wrong_heads : (k : Numbers) (kind : Kind) (h : List ℕ) → FaultMeans WrongHead (HeadIsWrongAt k kind h) (head_fault k kind h)
+  pub tells_wrong_shapes : TellsWrongShapes
+  pub tells_wrong_heads : TellsWrongHeads
   pub tells_spare_bits : (n w at : ℕ) (bytes : List ℕ) → AllFit 8 bytes → length bytes ≡ packed_length n w → TellsSpareBits n w at bytes

@@ -38,12 +38,12 @@ answer_values_at = 11
 abbrev pub signals_at : Numbers → ℕ
 signals_at k = 13 + values_length k
 
-abbrev pub signals_of : Numbers → List ℕ → List ℕ
-signals_of k message = stretch (signals_at k) (signals_length k) message
+abbrev pub signal_bytes : Numbers → List ℕ → List ℕ
+signal_bytes k message = stretch (signals_at k) (signals_length k) message
 
 abbrev pub parts : Numbers → Kind → List ℕ → Message
 parts k Offer message = offer (round_in (head_of message)) (stretch seed_at 16 message) (unpacked k.w k.n (stretch offer_values_at (values_length k) message))
-parts k Answer message = answer (round_in (head_of message)) (unpacked k.w k.n (stretch answer_values_at (values_length k) message)) (unpacked k.signal_width k.n (signals_of k message))
+parts k Answer message = answer (round_in (head_of message)) (unpacked k.w k.n (stretch answer_values_at (values_length k) message)) (unpacked k.signal_width k.n (signal_bytes k message))
 parts k Confirmation message = confirmation (round_in (head_of message))
 
 -- ---- refusals
@@ -65,7 +65,7 @@ spare_bit_fault n w at many bytes = if nat_lt (number 8 bytes) (2 ^ (n * w)) the
 -- only signals may have spare bits: rounded values fill whole bytes
 abbrev pub spare_fault : Numbers → Kind → List ℕ → Option Fault
 spare_fault k Offer message = None
-spare_fault k Answer message = spare_bit_fault k.n k.signal_width (signals_at k) (signals_length k) (signals_of k message)
+spare_fault k Answer message = spare_bit_fault k.n k.signal_width (signals_at k) (signals_length k) (signal_bytes k message)
 spare_fault k Confirmation message = None
 
 -- the order in which faults are tried

@@ -2,7 +2,8 @@
 use Rattle.std.specs.Prelude.{◌≡◌, ◌≢◌, ℕ, ◌+◌, ◌^◌, ◌⊎◌, length, Ok, Err, Result}
 use Rattle.ring.specs.Elements.{AllBelow, FirstNotBelow}
 use Rattle.ring.specs.declared.fault.Fault.{Fault}
-use Rattle.ring.specs.declared.fault.Fault.TheVariants.{WrongLength, OutOfRange, SumTooLarge, CoinOutOfRange, SourceSpent}
+use Rattle.ring.specs.declared.fault.Fault.TheVariants.{WrongLength, OutOfRange}
+use Rattle.ring.specs.declared.fault.Fault.TheVariants.{SumTooLarge, CoinOutOfRange, SourceSpent}
 use Rattle.profile.specs.declared.numbers.Numbers.{Numbers}
 use Rattle.message.specs.Lengths.{offer_length, answer_length, confirmation_length}
 use Rattle.message.specs.Messages.{Message, offer, answer, confirmation}
@@ -37,10 +38,12 @@ abbrev pub FirstNotFitting : Numbers → Message → (place : ℕ) → Type 0
 FirstNotFitting k (offer round seed values) place = FirstNotBelow (2 ^ k.w) values place
 FirstNotFitting k (answer round values signals) place =
     FirstNotBelow (2 ^ k.w) values place
-    ⊎ (AllBelow (2 ^ k.w) values × ((j : ℕ) × (place ≡ k.n + j) × FirstNotBelow (2 ^ k.signal_width) signals j))
+    ⊎ (AllBelow (2 ^ k.w) values
+    × ((j : ℕ) × (place ≡ k.n + j) × FirstNotBelow (2 ^ k.signal_width) signals j))
 FirstNotFitting k (confirmation round) place = ⊥
 
--- what each answer says of the parts and of the room: that they fit, or where they first do not, lengths before numbers
+-- what each answer says of the parts and of the room: that they fit, or where they first do not, by lengths, then
+-- numbers
 abbrev pub WriteMeans : Numbers → Message → (room : ℕ) → Result (Unit {0}) Fault → Type 0
 WriteMeans k m room (Ok _) = LengthsFit k m room × NumbersFit k m
 WriteMeans k m room (Err (WrongLength place)) = FirstWrongLength k m room place
@@ -55,4 +58,5 @@ WritingRefusesTheFirst = (k : Numbers) (m : Message) (room : ℕ) → WriteMeans
 
 abbrev pub WritingAcceptsWhatFits : Type 0
 WritingAcceptsWhatFits =
-    (k : Numbers) (m : Message) (room : ℕ) → LengthsFit k m room → NumbersFit k m → write_answer k m room ≡ Ok tt
+    (k : Numbers) (m : Message) (room : ℕ) → LengthsFit k m room → NumbersFit k m
+    → write_answer k m room ≡ Ok tt
