@@ -28,14 +28,6 @@ impl Coded for () {
     }
 }
 
-impl Coded for u8 {
-    ghost code = { λ value. value };
-
-    fn code(self) -> u64 {
-        u64::from(self)
-    }
-}
-
 impl Coded for u32 {
     ghost code = { λ value. value };
 
@@ -45,7 +37,7 @@ impl Coded for u32 {
 }
 
 // A signal and a key bit.
-impl Coded for (u8, u8) {
+impl Coded for (u32, u32) {
     ghost code = { pair_number };
 
     fn code(self) -> u64 {

@@ -27,5 +27,6 @@ pub fn exported_reconcile(profile: u8, x: u32, coin: u8) -> u64
 pub fn exported_read(profile: u8, y: u32, signal: u8) -> u64
     ensures { result ≡ read_code profile y signal }
 {
+    let signal = u32::from(signal);
     by_index!(profile, P::read(y, signal).code())
 }
