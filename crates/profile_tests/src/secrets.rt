@@ -63,7 +63,9 @@ fn refused_keeps_accepted_replaces_erased_holds_nothing(rt: HostRuntime) -> Resu
         Some(&leading(4, 2)[..]),
         "accepted, it holds the new one"
     );
+    assert_eq!(rt; place.words(), &leading(4, 2)[..]);
     place.erase();
     assert!(rt; place.secret().is_none());
+    assert_eq!(rt; place.words(), &leading(0, 1)[..]);
     Ok(())
 }
