@@ -42,7 +42,7 @@ FirstNotFitting k (answer round values signals) place =
     × ((j : ℕ) × (place ≡ k.n + j) × FirstNotBelow (2 ^ k.signal_width) signals j))
 FirstNotFitting k (confirmation round) place = ⊥
 
--- what each answer says of the parts and of the room: that they fit, or where they first do not, by lengths, then
+-- what each answer says of the parts and of the room: that they fit, or where they first do not, lengths before
 -- numbers
 abbrev pub WriteMeans : Numbers → Message → (room : ℕ) → Result (Unit {0}) Fault → Type 0
 WriteMeans k m room (Ok _) = LengthsFit k m room × NumbersFit k m
