@@ -2,10 +2,10 @@
 use Rattle.std.specs.Prelude.{◌≡◌, ℕ, ◌*◌, ◌<◌, if◌then◌else◌, List, length, Result, ◌==◌}
 use Rattle.ring.specs.Faults.{after}
 use Rattle.ring.specs.Residues.{IsModulus}
+use Rattle.ring.specs.Scratch.{zeroed}
 use Rattle.ring.specs.declared.fault.Fault.{Fault}
 use Rattle.element.specs.Products.{product}
 use Rattle.multiplier.specs.Multipliers.{IsDegree, multiply_answer}
-use Rattle.multiplier.specs.Scratch.{zeroed}
 use Rattle.keccak.specs.Sponge.{shake128}
 use Rattle.profile.specs.declared.numbers.Numbers.{Numbers}
 use Rattle.source.specs.Derivation.{derived, derive_answer}

@@ -1,12 +1,12 @@
 -- What the exported functions that read messages answer and leave.
 use Rattle.std.specs.Prelude.{ℕ, ◌==◌, List, [], length, Ok, Err, Result}
-use Rattle.ring.specs.Faults.{checked}
+use Rattle.ring.specs.Faults.{checked, followed, passed_up}
 use Rattle.ring.specs.declared.fault.Fault.{Fault}
 use Rattle.ring.specs.declared.fault.Fault.TheVariants.{WrongLength}
 use Rattle.profile.specs.declared.numbers.Numbers.{Numbers}
 use Rattle.message.specs.Messages.{Message, offer, answer, confirmation, round_of}
 use Rattle.message.specs.Reading.{reading}
-use Rattle.message.specs.declared.fault.Fault as message_fault
+use Rattle.message.specs.declared.kind.Kind.{Kind}
 use Rattle.message.specs.declared.kind.Kind.TheVariants as kinds
 use Rattle.exports.specs.declared.refusal.Refusal.{Refusal}
 use Rattle.exports.specs.declared.refusal.Refusal.TheVariants as refusals
@@ -19,30 +19,27 @@ use Rattle.exports.specs.Codes.{reading_code, no_call}
 abbrev pub room_answer : Numbers → (argument room : ℕ) → Result (Unit {0}) Fault
 room_answer k argument room = checked (room == k.n) (WrongLength argument) (Ok tt)
 
--- its fault passed up whole, or else what is read then
-abbrev pub after_room : {X : Type 0} → Result (Unit {0}) Fault → Result X Refusal → Result X Refusal
-after_room (Ok _) read = read
-after_room (Err fault) read = Err (refusals.Ring fault)
+-- that test's answer and a message's, as answers that may refuse for either
+abbrev pub room_checked : Numbers → (argument room : ℕ) → Result (Unit {0}) Refusal
+room_checked k argument room = passed_up refusals.Ring (room_answer k argument room)
 
--- the message, or its fault passed up whole
-abbrev pub passed_up : {X : Type 0} → Result X message_fault.Fault → Result X Refusal
-passed_up (Ok read) = Ok read
-passed_up (Err fault) = Err (refusals.Message fault)
+abbrev pub message_read : Numbers → Kind → (message : List ℕ) → Result Message Refusal
+message_read k kind message = passed_up refusals.Message (reading k kind message)
 
 -- the lengths of the buffers are tried before the message is looked at
 unfoldable pub offer_read : Numbers → (message : List ℕ) → (values_room : ℕ) → Result Message Refusal
 offer_read k message values_room =
-    after_room (room_answer k 1 values_room)
-    (passed_up (reading k kinds.Offer message))
+    followed (room_checked k 1 values_room)
+    (message_read k kinds.Offer message)
 
 unfoldable pub answer_read : Numbers → (message : List ℕ) → (values_room signals_room : ℕ) → Result Message Refusal
 answer_read k message values_room signals_room =
-    after_room (room_answer k 1 values_room)
-    (after_room (room_answer k 2 signals_room)
-    (passed_up (reading k kinds.Answer message)))
+    followed (room_checked k 1 values_room)
+    (followed (room_checked k 2 signals_room)
+    (message_read k kinds.Answer message))
 
 unfoldable pub confirmation_read : Numbers → (message : List ℕ) → Result Message Refusal
-confirmation_read k message = passed_up (reading k kinds.Confirmation message)
+confirmation_read k message = message_read k kinds.Confirmation message
 
 -- ---- what is told and left of them
 

@@ -10,8 +10,8 @@ ghost use Rattle.exports.specs.Reading.{read_answer_code, read_answer_values, re
 use crate::by_index::by_index;
 use crate::codes::{Coded, NO_CALL};
 use crate::refusal::Refusal;
-use packing::{signals_width, values_width};
-use profile::{Profile, SEED_LENGTH};
+use message::{SEED_LENGTH, signals_width, values_width};
+use profile::Profile;
 use ring::Fault;
 
 pub fn exported_read_offer(profile: u8, message: &[u8], seed: &mut [u8], values: &mut [u32]) -> u64

@@ -1,7 +1,7 @@
 -- The three number sets, and what a number set owes.
 use Rattle.std.specs.Prelude.{◌≡◌, ℕ, ◌+◌, ◌-◌, ◌*◌, ◌/◌, ◌%◌, ◌^◌, ◌<◌, ◌≤◌}
 use Rattle.ring.specs.Residues.{IsModulus}
-use Rattle.profile.specs.Secrets.{Bounds}
+use Rattle.profile.specs.declared.bounds.Bounds.{Bounds}
 use Rattle.house.specs.declared.sizes.Sizes.{Sizes}
 
 pub record Admissible (s : Sizes) : Type 0 where

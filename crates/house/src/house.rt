@@ -1,13 +1,14 @@
 // One text for every house profile.
 ghost use Rattle.std.specs.Prelude.{◌≡◌};
 ghost use Rattle.house.specs.House.{house_numbers, house_functions};
+ghost use Rattle.house.specs.NumberSets.{bounds_of_sizes};
 ghost use Rattle.reconcile.specs.Reconcilers.{tolerance};
 ghost use Rattle.house.specs.LawProofs.Lawfulness.{house_lawful};
 ghost use Rattle.std.proofs.Common.{rules};
 
 use crate::number_set::NumberSet;
 use crate::rounding::Rounding;
-use profile::{Numbers, Profile};
+use profile::{Bounds, Numbers, Place, Profile, SecretBounds};
 use reconcile::Reconciler;
 use ring::{Fault, Modulus};
 use std::marker::PhantomData;
@@ -47,16 +48,26 @@ const fn tau<S: NumberSet, K: Reconciler>() -> u32
     (formula.times * S::SIZES.q).saturating_sub(formula.less) >> formula.shift
 }
 
+impl<S: NumberSet, K> SecretBounds for House<S, K> {
+    const BOUNDS: Bounds = Bounds {
+        n: S::SIZES.n,
+        e: S::SIZES.e,
+        l: S::SIZES.l,
+    };
+
+    ghost BOUNDS = { bounds_of_sizes S.SIZES };
+}
+
 impl<S: NumberSet, K: Reconciler> Profile for House<S, K> {
-    type Secret = S::Secret;
+    type Secret = Place<House<S, K>>;
 
     const NUMBERS: Numbers = Numbers {
         n: S::SIZES.n,
         q: S::SIZES.q,
         p: S::SIZES.p,
         w: S::SIZES.w,
-        e: S::SIZES.e,
-        l: S::SIZES.l,
+        e: Self::BOUNDS.e,
+        l: Self::BOUNDS.l,
         step: K::NUMBERS.step,
         r: K::NUMBERS.step * S::SIZES.rounding,
         tau: tau::<S, K>(),

@@ -1,20 +1,16 @@
 // The three number sets.
 ghost use Rattle.std.specs.Prelude.{◌≡◌};
-ghost use Rattle.house.specs.NumberSets.{Admissible, bounds_of_sizes, sizes_t, sizes_s, sizes_w};
+ghost use Rattle.house.specs.NumberSets.{Admissible, sizes_t, sizes_s, sizes_w};
 ghost use Rattle.house.specs.declared.sizes.Sizes.{Sizes};
 ghost use Rattle.house.specs.LawProofs.AdmissibleSets.{admissible_t, admissible_s, admissible_w};
-ghost use Rattle.std.proofs.Common.{rules};
 
 use crate::sizes::Sizes;
-use profile::{Place, SecretPlace};
 
 // What a house profile has apart from its reconciler.
 pub trait NumberSet {
     const SIZES: Sizes;
 
     ghost SIZES: { Sizes };
-
-    type Secret: SecretPlace;
 
     // The sizes, as a call gives them.
     fn stated() -> Sizes
@@ -24,8 +20,6 @@ pub trait NumberSet {
     }
 
     ghost admissible: { Admissible SIZES };
-
-    ghost secret_bounds: { Self.Secret.bounds ≡ bounds_of_sizes SIZES };
 }
 
 // Small enough to work through by hand.
@@ -43,13 +37,9 @@ impl NumberSet for T {
         byte: 1,
     };
 
-    type Secret = Place<4, 1, 4>;
-
     ghost SIZES = { sizes_t };
 
     ghost admissible = { admissible_t };
-
-    ghost secret_bounds = { Prim.search rules };
 }
 
 // Small numbers.
@@ -67,13 +57,9 @@ impl NumberSet for S {
         byte: 2,
     };
 
-    type Secret = Place<512, 2, 191>;
-
     ghost SIZES = { sizes_s };
 
     ghost admissible = { admissible_s };
-
-    ghost secret_bounds = { Prim.search rules };
 }
 
 // A wide modulus.
@@ -91,11 +77,7 @@ impl NumberSet for W {
         byte: 3,
     };
 
-    type Secret = Place<256, 7, 1792>;
-
     ghost SIZES = { sizes_w };
 
     ghost admissible = { admissible_w };
-
-    ghost secret_bounds = { Prim.search rules };
 }

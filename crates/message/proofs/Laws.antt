@@ -2,10 +2,13 @@
 use Rattle.message.specs.MessageLaws.{MessageLaws}
 use Rattle.message.proofs.Accepting.{writes_lawful_parts}
 use Rattle.message.proofs.Alike.{alike}
-use Rattle.message.proofs.LeastPlaces.{accepts_only_right_shapes, refuses_at_the_least}
+use Rattle.message.proofs.LeastPlaces.{tells_wrong_shapes}
+use Rattle.message.proofs.Lines.{line_means}
 use Rattle.message.proofs.ReadBack.{reads_back}
+use Rattle.message.proofs.ReadingLaws.{reading_means}
 use Rattle.message.proofs.SpareLaws.{tells_spare_bits}
-use Rattle.message.proofs.WrongHeads.{tells_wrong_head}
+use Rattle.message.proofs.WrongHeads.{tells_wrong_heads}
+use Rattle.message.proofs.WritingLaws.{accepts_what_fits, write_means}
 use Rattle.message.proofs.WrittenAgain.{is_written_from_its_parts}
 
 pub message_laws : MessageLaws
@@ -14,8 +17,11 @@ message_laws = record {
   reads_back = reads_back;
   is_written_from_its_parts = is_written_from_its_parts;
   tells_kind_profile_and_round = alike;
-  refuses_at_the_least = refuses_at_the_least;
-  accepts_only_right_shapes = accepts_only_right_shapes;
-  tells_wrong_head = tells_wrong_head;
+  writing_refuses_the_first = write_means;
+  writing_accepts_what_fits = accepts_what_fits;
+  line_takes_its_length = line_means;
+  reading_refuses_the_first = reading_means;
+  tells_wrong_shapes = tells_wrong_shapes;
+  tells_wrong_heads = tells_wrong_heads;
   tells_spare_bits = tells_spare_bits;
 }

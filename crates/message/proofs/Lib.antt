@@ -5,9 +5,11 @@ pub mod ReadBack
 pub mod WrittenAgain
 pub mod Alike
 pub mod LeastPlaces
+pub mod WritingLaws
 pub mod Accepting
 pub mod SpareLaws
 pub mod WrongHeads
+pub mod ReadingLaws
 pub mod Laws
 pub mod Lines
 pub mod SpareBits

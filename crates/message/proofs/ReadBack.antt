@@ -4,7 +4,8 @@ use Rattle.std.specs.Option.{option_or}
 use Rattle.std.proofs.lemmas.Bool.{cond-true, lt-ltb}
 use Rattle.std.proofs.lemmas.List.{append_assoc, append-nil, length-append}
 use Rattle.profile.specs.Laws.{InRange}
-use Rattle.profile.specs.Lengths.{packed_length, values_length, signals_length}
+use Rattle.packing.specs.Lengths.{packed_length}
+use Rattle.message.specs.Lengths.{values_length, signals_length}
 use Rattle.profile.specs.declared.numbers.Numbers.{Numbers}
 use Rattle.profile.proofs.Ranges.{packed_bits_most}
 use Rattle.packing.specs.Packing.{number, packed, unpacked}
@@ -14,7 +15,8 @@ use Rattle.packing.proofs.Digits.{number_below}
 use Rattle.message.specs.declared.kind.Kind.TheVariants.{Offer, Answer, Confirmation}
 use Rattle.message.specs.Messages.{offer, answer, confirmation, AreNumbers, HasLawfulParts, IsRound, encoded, head, section}
 use Rattle.message.specs.MessageLaws.{ReadsBack}
-use Rattle.message.specs.Reading.{head_fault, head_of, reading, round_in, signals_at, spare_bit_fault, spare_fault, unless}
+use Rattle.message.specs.Reading.{head_fault, head_of, reading, round_in, signals_at, spare_bit_fault, spare_fault}
+use Rattle.ring.specs.Faults.{unless}
 use Rattle.message.specs.Sections.{stretch}
 use Rattle.message.specs.Shapes.{layout, shape_fault}
 use Rattle.message.proofs.Heads.{head_right, round_back}

@@ -4,7 +4,7 @@ use Rattle.std.specs.Option.{option_or}
 use Rattle.std.proofs.lemmas.Bool.{ltb-true}
 use Rattle.std.proofs.lemmas.List.{append_assoc, append-nil}
 use Rattle.profile.specs.Laws.{InRange}
-use Rattle.profile.specs.Lengths.{values_length, signals_length}
+use Rattle.message.specs.Lengths.{values_length, signals_length}
 use Rattle.profile.specs.declared.numbers.Numbers.{Numbers}
 use Rattle.packing.specs.Packing.{number, packed, unpacked, AllFit}
 use Rattle.packing.proofs.Laws.{packs_below}
@@ -15,7 +15,8 @@ use Rattle.message.specs.declared.kind.Kind.{Kind}
 use Rattle.message.specs.declared.kind.Kind.TheVariants.{Offer, Answer, Confirmation}
 use Rattle.message.specs.Messages.{Message, offer, answer, confirmation, AreNumbers, encoded, head, section}
 use Rattle.message.specs.MessageLaws.{IsWrittenFromItsParts, WrittenFrom}
-use Rattle.message.specs.Reading.{answer_values_at, head_fault, head_of, offer_values_at, parts, reading_fault, round_in, seed_at, signals_at, spare_bit_fault, spare_fault, unless}
+use Rattle.message.specs.Reading.{answer_values_at, head_fault, head_of, offer_values_at, parts, reading_fault, round_in, seed_at, signals_at, spare_bit_fault, spare_fault}
+use Rattle.ring.specs.Faults.{unless}
 use Rattle.message.specs.Sections.{stretch}
 use Rattle.message.specs.Shapes.{layout, section_fault, shape_fault}
 use Rattle.message.proofs.Heads.{head_back}

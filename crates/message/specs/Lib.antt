@@ -1,9 +1,12 @@
 pub mod Faults
+pub mod Lengths
 pub mod Messages
 pub mod Sections
 pub mod Writing
+pub mod WritingLaws
 pub mod Lines
 pub mod Parts
 pub mod Shapes
 pub mod Reading
+pub mod ReadingLaws
 pub mod MessageLaws

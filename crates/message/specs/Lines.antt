@@ -1,8 +1,9 @@
 -- The line that shows a list of bytes under a word.
-use Rattle.std.specs.Prelude.{ℕ, ◌+◌, ◌*◌, List, [], ◌∷◌, ◌++◌, length, ◌==◌, Ok, Result}
+use Rattle.std.specs.Prelude.{◌≡◌, ◌≢◌, ℕ, ◌+◌, ◌*◌, List, [], ◌∷◌, ◌++◌, length, ◌==◌, Ok, Err, Result}
 use Rattle.ring.specs.Faults.{checked}
 use Rattle.ring.specs.declared.fault.Fault.{Fault}
-use Rattle.ring.specs.declared.fault.Fault.TheVariants.{WrongLength}
+use Rattle.ring.specs.declared.fault.Fault.TheVariants.{WrongLength, OutOfRange}
+use Rattle.ring.specs.declared.fault.Fault.TheVariants.{SumTooLarge, CoinOutOfRange, SourceSpent}
 use Rattle.hex.specs.Hex.{encode_lower}
 
 -- the word, a space, the bytes in lower-case hexadecimal, and a newline
@@ -11,3 +12,17 @@ line word bytes = word ++ 32 ∷ (encode_lower bytes ++ 10 ∷ [])
 
 abbrev pub line_answer : (word bytes : List ℕ) → (room : ℕ) → Result (Unit {0}) Fault
 line_answer word bytes room = checked (room == length word + 2 * length bytes + 2) (WrongLength 4) (Ok tt)
+
+-- what each answer says of the room: that it is the line's length, or that it is not
+abbrev pub LineMeans : (word bytes : List ℕ) → (room : ℕ) → Result (Unit {0}) Fault → Type 0
+LineMeans word bytes room (Ok _) = room ≡ length (line word bytes)
+LineMeans word bytes room (Err (WrongLength place)) = (place ≡ 4) × (room ≢ length (line word bytes))
+LineMeans word bytes room (Err (OutOfRange place)) = ⊥
+LineMeans word bytes room (Err (SumTooLarge place)) = ⊥
+LineMeans word bytes room (Err (CoinOutOfRange place)) = ⊥
+LineMeans word bytes room (Err (SourceSpent place)) = ⊥
+
+-- every word and bytes, into any room
+abbrev pub LineTakesItsLength : Type 0
+LineTakesItsLength =
+    (word bytes : List ℕ) (room : ℕ) → LineMeans word bytes room (line_answer word bytes room)

@@ -1,16 +1,18 @@
 -- What is proved of messages as such, of every profile's numbers.
-use Rattle.std.specs.Prelude.{◌≡◌, ℕ, ◌+◌, ◌*◌, ◌/◌, ◌<◌, ◌≤◌, ◌⊎◌, List, [], ◌∷◌, length, slice_index, Ok, Some, None, false}
+use Rattle.std.specs.Prelude.{◌≡◌, ℕ, ◌+◌, ◌*◌, ◌/◌, ◌≤◌, List, length, Ok, Some, None}
 use Rattle.profile.specs.Laws.{InRange}
 use Rattle.profile.specs.declared.numbers.Numbers.{Numbers}
-use Rattle.profile.specs.Lengths.{packed_length}
+use Rattle.packing.specs.Lengths.{packed_length}
 use Rattle.packing.specs.Packing.{AllFit}
 use Rattle.packing.specs.PackingLaws.{SpareClear, bit_of}
-use Rattle.message.specs.declared.fault.Fault.TheVariants.{WrongShape, WrongHead, SpareBit}
+use Rattle.message.specs.declared.fault.Fault.TheVariants.{SpareBit}
 use Rattle.message.specs.declared.kind.Kind.{Kind}
-use Rattle.message.specs.Messages.{Message, HasLawfulParts, IsRound, encoded, head, kind_of, round_of}
-use Rattle.message.specs.Reading.{head_fault, reading, spare_bit_fault}
+use Rattle.message.specs.Lines.{LineTakesItsLength}
+use Rattle.message.specs.Messages.{Message, HasLawfulParts, IsRound, encoded, kind_of, round_of}
+use Rattle.message.specs.Reading.{reading, spare_bit_fault}
+use Rattle.message.specs.ReadingLaws.{ReadingRefusesTheFirst, TellsWrongHeads, TellsWrongShapes}
 use Rattle.message.specs.Writing.{message_length, write_answer}
-use Rattle.message.specs.Shapes.{is_counted, shape_fault}
+use Rattle.message.specs.WritingLaws.{WritingAcceptsWhatFits, WritingRefusesTheFirst}
 
 -- a written message reads back to its parts
 abbrev pub ReadsBack : Numbers → Type 0
@@ -35,19 +37,6 @@ pub record Alike (k l : Numbers) (m o : Message) : Type 0 where
 abbrev pub TellsKindProfileAndRound : Type 0
 TellsKindProfileAndRound = (k l : Numbers) (m o : Message) → IsRound (round_of m) → IsRound (round_of o) → encoded k m ≡ encoded l o → Alike k l m o
 
--- the places at which a message is not a row of sections that begins at an offset: a count that is missing or wrong, the
--- start of contents that are cut short, the first byte after the last section
-abbrev pub ShapeIsWrongAt : (at : ℕ) → List ℕ → List ℕ → ℕ → Type 0
-ShapeIsWrongAt at [] message place = (place ≡ at) × (at < length message)
-ShapeIsWrongAt at (many ∷ rest) message place = ((place ≡ at) × (is_counted at many message ≡ false)) ⊎ ((place ≡ at + 2) × (length message < at + 2 + many)) ⊎ ShapeIsWrongAt (at + 2 + many) rest message place
-
--- a refusal by shape names the least of these places, and without one there is none
-abbrev pub RefusesAtTheLeast : Type 0
-RefusesAtTheLeast = (at : ℕ) (layout message : List ℕ) (place : ℕ) → shape_fault at layout message ≡ Some (WrongShape place) → ShapeIsWrongAt at layout message place × ((sooner : ℕ) → sooner < place → ShapeIsWrongAt at layout message sooner → ⊥)
-
-abbrev pub AcceptsOnlyRightShapes : Type 0
-AcceptsOnlyRightShapes = (at : ℕ) (layout message : List ℕ) (place : ℕ) → shape_fault at layout message ≡ None → ShapeIsWrongAt at layout message place → ⊥
-
 -- the spare bits of n numbers of w bits in bytes at an offset: none is set where there is no fault, and else the fault is at
 -- the byte of each that is set
 pub record TellsSpareBits (n w at : ℕ) (bytes : List ℕ) : Type 0 where
@@ -55,18 +44,10 @@ pub record TellsSpareBits (n w at : ℕ) (bytes : List ℕ) : Type 0 where
   pub none_is_refused : SpareClear w n bytes → spare_bit_fault n w at (packed_length n w) bytes ≡ None
   pub at_its_byte : (j : ℕ) → n * w ≤ j → (bit_of bytes j ≡ 0 → ⊥) → spare_bit_fault n w at (packed_length n w) bytes ≡ Some (SpareBit (at + j / 8))
 
--- the places of the head's first three bytes that are not those of the kind and the profile
-abbrev pub HeadIsWrongAt : Numbers → Kind → List ℕ → ℕ → Type 0
-HeadIsWrongAt k kind h place = (i : ℕ) × (i < 3) × (place ≡ 2 + i) × (slice_index h i ≡ slice_index (head k kind 0) i → ⊥)
-
--- a refusal by the head names the least of these places, and without one there is none
-pub record TellsWrongHead (k : Numbers) (kind : Kind) (h : List ℕ) : Type 0 where
-  pub least : (place : ℕ) → head_fault k kind h ≡ Some (WrongHead place) → HeadIsWrongAt k kind h place × ((sooner : ℕ) → sooner < place → HeadIsWrongAt k kind h sooner → ⊥)
-  pub accepted : (place : ℕ) → head_fault k kind h ≡ None → HeadIsWrongAt k kind h place → ⊥
-
--- lawful parts are written, into as many bytes as a message of the kind has
+-- lawful parts are written, as bytes, and as many of them as a message of the kind has
 pub record WritesLawfulParts (k : Numbers) (m : Message) : Type 0 where
   pub length : length (encoded k m) ≡ message_length k (kind_of m)
+  pub is_bytes : AllFit 8 (encoded k m)
   pub accepted : write_answer k m (message_length k (kind_of m)) ≡ Ok tt
 
 pub record MessageLaws : Type 0 where
@@ -74,7 +55,10 @@ pub record MessageLaws : Type 0 where
   pub reads_back : (k : Numbers) → InRange k → ReadsBack k
   pub is_written_from_its_parts : (k : Numbers) → InRange k → IsWrittenFromItsParts k
   pub tells_kind_profile_and_round : TellsKindProfileAndRound
-  pub refuses_at_the_least : RefusesAtTheLeast
-  pub accepts_only_right_shapes : AcceptsOnlyRightShapes
-  pub tells_wrong_head : (k : Numbers) (kind : Kind) (h : List ℕ) → TellsWrongHead k kind h
+  pub writing_refuses_the_first : WritingRefusesTheFirst
+  pub writing_accepts_what_fits : WritingAcceptsWhatFits
+  pub line_takes_its_length : LineTakesItsLength
+  pub reading_refuses_the_first : ReadingRefusesTheFirst
+  pub tells_wrong_shapes : TellsWrongShapes
+  pub tells_wrong_heads : TellsWrongHeads
   pub tells_spare_bits : (n w at : ℕ) (bytes : List ℕ) → AllFit 8 bytes → length bytes ≡ packed_length n w → TellsSpareBits n w at bytes

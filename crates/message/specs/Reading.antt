@@ -2,9 +2,10 @@
 use Rattle.std.specs.Prelude.{◌≡◌, ℕ, ◌+◌, ◌-◌, ◌*◌, ◌^◌, ◌==◌, List, Ok, Err, Result, Some, None, Option, drop, slice_index, nat_lt, if◌then◌else◌}
 use Rattle.std.specs.Borrow.{Bor}
 use Rattle.std.specs.Option.{option_or}
-use Rattle.profile.specs.Lengths.{values_length, signals_length}
+use Rattle.message.specs.Lengths.{values_length, signals_length}
 use Rattle.profile.specs.declared.numbers.Numbers.{Numbers}
 use Rattle.packing.specs.Packing.{number, unpacked}
+use Rattle.ring.specs.Faults.{unless}
 use Rattle.message.specs.declared.fault.Fault.{Fault}
 use Rattle.message.specs.declared.fault.Fault.TheVariants.{WrongHead, SpareBit}
 use Rattle.message.specs.declared.kind.Kind.{Kind}
@@ -37,9 +38,12 @@ answer_values_at = 11
 abbrev pub signals_at : Numbers → ℕ
 signals_at k = 13 + values_length k
 
+abbrev pub signal_bytes : Numbers → List ℕ → List ℕ
+signal_bytes k message = stretch (signals_at k) (signals_length k) message
+
 abbrev pub parts : Numbers → Kind → List ℕ → Message
 parts k Offer message = offer (round_in (head_of message)) (stretch seed_at 16 message) (unpacked k.w k.n (stretch offer_values_at (values_length k) message))
-parts k Answer message = answer (round_in (head_of message)) (unpacked k.w k.n (stretch answer_values_at (values_length k) message)) (unpacked k.signal_width k.n (stretch (signals_at k) (signals_length k) message))
+parts k Answer message = answer (round_in (head_of message)) (unpacked k.w k.n (stretch answer_values_at (values_length k) message)) (unpacked k.signal_width k.n (signal_bytes k message))
 parts k Confirmation message = confirmation (round_in (head_of message))
 
 -- ---- refusals
@@ -61,7 +65,7 @@ spare_bit_fault n w at many bytes = if nat_lt (number 8 bytes) (2 ^ (n * w)) the
 -- only signals may have spare bits: rounded values fill whole bytes
 abbrev pub spare_fault : Numbers → Kind → List ℕ → Option Fault
 spare_fault k Offer message = None
-spare_fault k Answer message = spare_bit_fault k.n k.signal_width (signals_at k) (signals_length k) (stretch (signals_at k) (signals_length k) message)
+spare_fault k Answer message = spare_bit_fault k.n k.signal_width (signals_at k) (signals_length k) (signal_bytes k message)
 spare_fault k Confirmation message = None
 
 -- the order in which faults are tried
@@ -70,10 +74,6 @@ reading_fault k kind message =
     option_or (shape_fault 0 (layout k kind) message)
     (option_or (head_fault k kind (head_of message))
     (spare_fault k kind message))
-
-abbrev pub unless : {X : Type 0} → Option Fault → X → Result X Fault
-unless None parts = Ok parts
-unless (Some fault) parts = Err fault
 
 -- what reading a message as one of a kind answers
 abbrev pub reading : Numbers → Kind → List ℕ → Result Message Fault

@@ -2,7 +2,7 @@
 use Rattle.std.specs.Prelude.{◌≡◌, ℕ, ◌+◌, ◌≤◌, ◌&&◌, ◌==◌, Bool, List, [], ◌∷◌, length, Some, None, Option, nat_le, if◌then◌else◌}
 use Rattle.std.specs.Borrow.{Bor}
 use Rattle.std.specs.Option.{option_or}
-use Rattle.profile.specs.Lengths.{values_length, signals_length}
+use Rattle.message.specs.Lengths.{values_length, signals_length}
 use Rattle.profile.specs.declared.numbers.Numbers.{Numbers}
 use Rattle.packing.specs.Packing.{number}
 use Rattle.message.specs.declared.fault.Fault.{Fault}

@@ -3,7 +3,7 @@ use Rattle.std.specs.Prelude.{ℕ, ◌+◌, List, length, ◌==◌, Ok, Result, 
 use Rattle.ring.specs.Faults.{checked}
 use Rattle.ring.specs.declared.fault.Fault.{Fault}
 use Rattle.ring.specs.declared.fault.Fault.TheVariants.{WrongLength, OutOfRange}
-use Rattle.profile.specs.Lengths.{offer_length, answer_length, confirmation_length}
+use Rattle.message.specs.Lengths.{offer_length, answer_length, confirmation_length}
 use Rattle.profile.specs.declared.numbers.Numbers.{Numbers}
 use Rattle.packing.specs.Packing.{front_fitting}
 use Rattle.message.specs.declared.kind.Kind.{Kind}

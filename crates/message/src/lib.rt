@@ -4,18 +4,25 @@
 mod fault;
 mod head;
 mod kind;
+mod lengths;
 mod line;
 mod parts;
 mod reading;
 mod section;
 mod section_writing;
 mod theorems;
+mod widths;
 mod writing;
 
 pub use fault::Fault;
 pub use kind::Kind;
+pub use lengths::{
+    HEAD_LENGTH, SEED_LENGTH, answer_length, confirmation_length, key_length, offer_length,
+    signals_length, values_length,
+};
 pub use line::bench_line;
 pub use parts::{Answer, Confirmation, Offer};
 pub use reading::{read_answer, read_confirmation, read_offer};
 pub use section::{AnswerSections, ConfirmationSections, OfferSections, Section};
 pub use theorems::message_laws;
+pub use widths::{key_width, signals_width, values_width};

@@ -4,19 +4,22 @@ ghost use Rattle.std.specs.Result.{result_err};
 ghost use Rattle.packing.specs.Packing.{unpacked};
 ghost use Rattle.message.specs.Messages.{answer, confirmation, encoded, offer};
 ghost use Rattle.message.specs.Reading.{IsOffer, IsAnswer, IsConfirmation, head_fault, read_as_offer, read_as_answer, read_as_confirmation, reading, reading_fault, round_in, spare_bit_fault};
+ghost use Rattle.message.specs.ReadingLaws.{ReadingMeans};
 ghost use Rattle.message.specs.Shapes.{IsStretch, section_fault, shape_fault};
 ghost use Rattle.message.specs.declared.kind.Kind.TheVariants.{Offer, Answer, Confirmation};
-ghost use Rattle.profile.specs.Lengths.{signals_length};
+ghost use Rattle.message.specs.Lengths.{signals_length};
 
 use crate::fault::Fault;
 use crate::kind::Kind;
+use crate::lengths::{HEAD_LENGTH, SEED_LENGTH, signals_length, values_length};
 use crate::section::{AnswerSections, ConfirmationSections, OfferSections, Section};
-use profile::{HEAD_LENGTH, Profile, SEED_LENGTH, signals_length, values_length};
+use profile::Profile;
 
 // Reads a message as an offer.
 pub fn read_offer<P: Profile>(message: &[u8]) -> Result<OfferSections<'_>, Fault>
     ensures answer { read_as_offer P.NUMBERS result ≡ reading P.NUMBERS Offer message.now }
     ensures fault { result_err result ≡ reading_fault P.NUMBERS Offer message.now }
+    ensures means { ReadingMeans P.NUMBERS Offer message.now (read_as_offer P.NUMBERS result) }
     ensures sections { IfOk result (λ o. IsOffer P.NUMBERS message.entry o) }
     ensures writes_back { let k = P.NUMBERS in
         IfOk result (λ o. encoded k (offer o.round o.seed.bytes.now (unpacked k.w k.n o.values.bytes.now)) ≡ message.now) }
@@ -38,6 +41,7 @@ pub fn read_offer<P: Profile>(message: &[u8]) -> Result<OfferSections<'_>, Fault
 pub fn read_answer<P: Profile>(message: &[u8]) -> Result<AnswerSections<'_>, Fault>
     ensures answer { read_as_answer P.NUMBERS result ≡ reading P.NUMBERS Answer message.now }
     ensures fault { result_err result ≡ reading_fault P.NUMBERS Answer message.now }
+    ensures means { ReadingMeans P.NUMBERS Answer message.now (read_as_answer P.NUMBERS result) }
     ensures sections { IfOk result (λ a. IsAnswer P.NUMBERS message.entry a) }
     ensures writes_back { let k = P.NUMBERS in
         IfOk result (λ a. encoded k (answer a.round (unpacked k.w k.n a.values.bytes.now) (unpacked k.signal_width k.n a.signals.bytes.now)) ≡ message.now) }
@@ -60,6 +64,7 @@ pub fn read_answer<P: Profile>(message: &[u8]) -> Result<AnswerSections<'_>, Fau
 pub fn read_confirmation<P: Profile>(message: &[u8]) -> Result<ConfirmationSections<'_>, Fault>
     ensures answer { read_as_confirmation P.NUMBERS result ≡ reading P.NUMBERS Confirmation message.now }
     ensures fault { result_err result ≡ reading_fault P.NUMBERS Confirmation message.now }
+    ensures means { ReadingMeans P.NUMBERS Confirmation message.now (read_as_confirmation P.NUMBERS result) }
     ensures sections { IfOk result (λ c. IsConfirmation message.entry c) }
     ensures writes_back { IfOk result (λ c. encoded P.NUMBERS (confirmation c.round) ≡ message.now) }
 {

@@ -1,6 +1,6 @@
 // How a section is written into its place of a message.
 ghost use Rattle.std.specs.Prelude.{◌≡◌, ◌+◌, ◌^◌, ◌<◌, ◌≤◌, length};
-ghost use Rattle.profile.specs.Lengths.{packed_length};
+ghost use Rattle.packing.specs.Lengths.{packed_length};
 ghost use Rattle.packing.specs.Packing.{AllFit, packed};
 ghost use Rattle.message.specs.Messages.{low_first, section};
 ghost use Rattle.message.specs.Sections.{written_at};

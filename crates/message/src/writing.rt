@@ -5,21 +5,25 @@ ghost use Rattle.message.specs.Messages.{encoded, kind_of};
 ghost use Rattle.message.specs.Parts.{offer_of, answer_of, confirmation_of};
 ghost use Rattle.message.specs.Reading.{reading};
 ghost use Rattle.message.specs.Writing.{write_answer};
+ghost use Rattle.message.specs.WritingLaws.{WriteMeans};
 
 use crate::head::head;
 use crate::kind::Kind;
+use crate::lengths::{
+    answer_length, confirmation_length, offer_length, signals_length, values_length,
+};
 use crate::parts::{Answer, Confirmation, Offer};
 use crate::section_writing::{pack_section, write_section};
-use packing::{Fields, signals_width, values_width};
-use profile::{
-    Profile, answer_length, confirmation_length, offer_length, signals_length, values_length,
-};
+use crate::widths::{signals_width, values_width};
+use packing::Fields;
+use profile::Profile;
 use ring::Fault;
 
 impl Offer<'_> {
     // Writes the offer of these parts into `out`, or leaves it as it was.
     pub fn write<P: Profile>(self, out: &mut [u8]) -> Result<(), Fault>
         ensures answer { result ≡ write_answer P.NUMBERS (offer_of self.entry) (length out.old) }
+        ensures means { WriteMeans P.NUMBERS (offer_of self.entry) (length out.old) result }
         ensures writes { out.new ≡ after result (encoded P.NUMBERS (offer_of self.entry)) out.old }
         ensures reads_back { let message = offer_of self.entry in
             OnOk result (reading P.NUMBERS (kind_of message) out.new ≡ Ok message) }
@@ -47,6 +51,7 @@ impl Answer<'_> {
     // Writes the answer of these parts into `out`, or leaves it as it was.
     pub fn write<P: Profile>(self, out: &mut [u8]) -> Result<(), Fault>
         ensures answer { result ≡ write_answer P.NUMBERS (answer_of self.entry) (length out.old) }
+        ensures means { WriteMeans P.NUMBERS (answer_of self.entry) (length out.old) result }
         ensures writes { out.new ≡ after result (encoded P.NUMBERS (answer_of self.entry)) out.old }
         ensures reads_back { let message = answer_of self.entry in
             OnOk result (reading P.NUMBERS (kind_of message) out.new ≡ Ok message) }
@@ -80,6 +85,7 @@ impl Confirmation {
     // Writes the confirmation of this round into `out`, or leaves it as it was.
     pub fn write<P: Profile>(self, out: &mut [u8]) -> Result<(), Fault>
         ensures answer { result ≡ write_answer P.NUMBERS (confirmation_of self) (length out.old) }
+        ensures means { WriteMeans P.NUMBERS (confirmation_of self) (length out.old) result }
         ensures writes { out.new ≡ after result (encoded P.NUMBERS (confirmation_of self)) out.old }
         ensures reads_back { let message = confirmation_of self in
             OnOk result (reading P.NUMBERS (kind_of message) out.new ≡ Ok message) }

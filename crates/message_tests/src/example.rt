@@ -1,8 +1,11 @@
 // Messages as they are written from their parts, and read back to them.
 use crate::parts::{ANSWER, CONFIRMATION, OFFER, SEED};
 use house::{House, S, T, W};
-use message::{Answer, Confirmation, Offer, Section, read_answer, read_confirmation, read_offer};
-use packing::{Width, signals_width, values_width};
+use message::{
+    Answer, Confirmation, Offer, Section, read_answer, read_confirmation, read_offer, signals_width,
+    values_width,
+};
+use packing::Width;
 use profile::Profile;
 use reconcile::{Ding, Okcn, Reconciler};
 use std::process::Abort;

@@ -1,8 +1,9 @@
 // Messages to compare with, and messages to damage.
 use message::{
-    Answer, Confirmation, Fault, Kind, Offer, read_answer, read_confirmation, read_offer,
+    Answer, Confirmation, Fault, Kind, Offer, answer_length, confirmation_length, offer_length,
+    read_answer, read_confirmation, read_offer,
 };
-use profile::{Profile, answer_length, confirmation_length, offer_length};
+use profile::Profile;
 use std::alloc::{AllocError, Global};
 use std::test::Fail;
 

@@ -9,7 +9,7 @@ use Rattle.element.proofs.FiniteSums.{sum_to_same, sum_to_split, sum_to_neg}
 use Rattle.element.proofs.Integers.{times_neg_right}
 use Rattle.element.proofs.Products.{shifted_low, shifted_high}
 use Rattle.element.proofs.Shapes.{coefficient_is}
-use Rattle.multiplier.specs.Multipliers.{AllBelow}
+use Rattle.ring.specs.Elements.{AllBelow}
 use Rattle.multiplier.specs.Sums.{nat_sum, negated, coefficient_mod, sum_of_rows}
 use Rattle.multiplier.proofs.NaturalSums.{pos_nat_sum}
 
@@ -41,7 +41,7 @@ module _ (q : ℕ) (left right : List ℕ) (k : ℕ) (some : 0 < q) (long : leng
       shifted_high (length left) (at (map pos right)) k i high ∙ ap neg_ℤ (ap (at (map pos right)) place ∙ at_pos right j) in
       subst (λ (z : ℤ). Congruent q (pos (get_or (map (negated q) right ++ right) j 0)) z) (sym other)
       (subst (λ (w : ℕ). Congruent q (pos w) (neg_ℤ (pos (get_or right j 0)))) (sym word)
-      (negated_congruent q (get_or right j 0) some (omega (arith, below j front)))))
+      (negated_congruent q (get_or right j 0) some (omega (arith, below j 0 front)))))
       (λ (low : i ≤ k).
       let j = length left - i + k in
       let back : j - length left ≡ k - i = omega arith in

@@ -63,8 +63,8 @@ module _ (modulus : Modulus) (left right : List ℕ) (f : AreFactors modulus.q l
       let each = nat_sum_bound (λ t. get_or left (a + t) 0 * get_or right (e - 1 - t) 0) (e - a) (q * q)
       (λ t lt.
       mul-le (get_or left (a + t) 0) (get_or right (e - 1 - t) 0) q q
-      (omega (arith, f.left_below (a + t) (omega arith)))
-      (omega (arith, f.right_below (e - 1 - t) (omega (arith, f.long))))) in
+      (omega (arith, f.left_below (a + t) 0 (omega arith)))
+      (omega (arith, f.right_below (e - 1 - t) 0 (omega (arith, f.long))))) in
       omega (arith, part_sum a e order inside, each, mul-le (e - a) (q * q) (length left) (q * q) (omega arith) (omega arith))
 
   -- at most 1024 products below 2^46 stay below 2^56

@@ -24,8 +24,8 @@ module _ (left words : List ℕ) (start many : ℕ) (rows : AreRows left words) 
   pub row_sum_fits : (i t : ℕ) → i ≤ length left → t < many → sum_of_rows left words i (start + t) ≤ 2 ^ 56
   row_sum_fits i t most h =
       products_fit (λ j. get_or left j 0) (λ j. get_or words (length left - j + (start + t)) 0) i (omega arith)
-      (λ j lt. rows.left_below j (omega arith))
-      (λ j lt. rows.words_below (length left - j + (start + t)) (omega arith))
+      (λ j lt. rows.left_below j 0 (omega arith))
+      (λ j lt. rows.words_below (length left - j + (start + t)) 0 (omega arith))
 
   pub one_more_fits : (i t : ℕ) → i < length left → t < many → sum_of_rows left words i (start + t) + get_or left i 0 * get_or (row left words start many i) t 0 < 2 ^ 64
   one_more_fits i t lt h = omega (arith, row_sum_more i t h, row_sum_fits (i + 1) t (omega arith) h)

@@ -1,11 +1,11 @@
 -- A list that holds the product, coefficient by coefficient, and the words of a row sum.
-use Rattle.std.proofs.Common.{◌≡◌, ℕ, ◌-◌, ◌*◌, ◌%◌, ◌<◌, ◌≤◌, List, ◌++◌, map, length, get_or, sym, ap, ◌∙◌, subst, ⊎_elim, arith}
+use Rattle.std.proofs.Common.{◌≡◌, ℕ, ◌*◌, ◌%◌, ◌^◌, ◌<◌, List, ◌++◌, map, length, get_or, sym, ap, ◌∙◌, subst, arith}
 use Rattle.std.proofs.lemmas.Nat.{mod_below}
-use Rattle.std.proofs.lemmas.List.{ext_get_or, get_or-map, get_or_append_left, get_or-append_right, length-append, length-map}
-use Rattle.std.proofs.lemmas.Bool.{cases_lt}
+use Rattle.std.proofs.lemmas.List.{ext_get_or, length-append, length-map}
+use Rattle.std.proofs.lemmas.List.Elements.{All-append, All-map, All-weaker}
 use Rattle.element.specs.Products.{product}
-use Rattle.element.proofs.Shapes.{length_product, get_or_product}
-use Rattle.multiplier.specs.Multipliers.{AllBelow}
+use Rattle.element.proofs.Shapes.{length_product, get_or_product, product_below}
+use Rattle.ring.specs.Elements.{AllBelow, IsElement}
 use Rattle.ring.specs.declared.modulus.Modulus.{Modulus}
 use Rattle.multiplier.specs.Sums.{AreFactors, AreRows, negated, coefficient_mod, sum_of_rows}
 use Rattle.multiplier.proofs.Coefficients.{row_sum_is_coefficient}
@@ -17,14 +17,9 @@ written n q left right output long each =
 
 -- a list negated modulo q, and the list
 words_below_q : (q : ℕ) (right : List ℕ) → 0 < q → AllBelow q right → AllBelow q (map (negated q) right ++ right)
-words_below_q q right some below k h =
-    ⊎_elim
-    (λ (front : k < length right).
-    rw (get_or_append_left (map (negated q) right) right 0 k (simp length-map front), get_or-map (negated q) right k 0 0 front) (mod_below _ q some))
-    (λ (back : length right ≤ k).
-    rw (get_or-append_right (map (negated q) right) right (length right) k 0 (simp length-map) back)
-    (below (k - length right) (omega (arith, h, length-append (map (negated q) right) right, length-map right (negated q)))))
-    (cases_lt k (length right))
+words_below_q q right some below =
+    let Below : ℕ → Type 0 = λ x. x < q in
+    All-append Below (map (negated q) right) right (All-map Below (negated q) right (λ k d h. mod_below _ q some)) below
 
 module _ (modulus : Modulus) (left right : List ℕ) (f : AreFactors modulus.q left right) where
   abbrev q : ℕ
@@ -34,11 +29,12 @@ module _ (modulus : Modulus) (left right : List ℕ) (f : AreFactors modulus.q l
   pub rows : (words : List ℕ) → words ≡ map (negated q) right ++ right → AreRows left words
   rows words words_are =
       let long : length words ≡ 2 * length left = ap length words_are ∙ simp (length-append, length-map) (omega (arith, f.long)) in
+      let few = All-weaker (λ x. x < q) (λ x. x < 2 ^ 23) (λ x h. omega (arith, modulus.below)) in
       record {
         short = f.short;
         long = long;
-        left_below = λ k h. omega (arith, f.left_below k h, modulus.below);
-        words_below = λ k h. omega (arith, subst (AllBelow q) (sym words_are) (words_below_q q right (omega (arith, modulus.at_least)) f.right_below) k h, modulus.below);
+        left_below = few left f.left_below;
+        words_below = few words (subst (AllBelow q) (sym words_are) (words_below_q q right (omega (arith, modulus.at_least)) f.right_below));
       }
 
   -- the row sums modulo q are the product
@@ -46,3 +42,11 @@ module _ (modulus : Modulus) (left right : List ℕ) (f : AreFactors modulus.q l
   row_sums_are_product words result words_are long each =
       written (length left) q left right result long
       (λ k h. each k h ∙ ap (λ (ws : List ℕ). sum_of_rows left ws (length left) k % q) words_are ∙ row_sum_is_coefficient q left right k (omega (arith, modulus.at_least)) f.long h f.right_below)
+
+-- where the product is written, there is an element
+pub product_is_element : (modulus : Modulus) (n : ℕ) (left right output : List ℕ) → output ≡ product n modulus.q left right → IsElement n modulus.q output
+product_is_element modulus n left right output is =
+    subst (IsElement n modulus.q) (sym is) (record {
+      long = length_product n modulus.q left right;
+      below = product_below n modulus.q left right (omega (arith, modulus.at_least));
+    })

@@ -1,5 +1,4 @@
 pub mod Multipliers
-pub mod Scratch
 pub mod Sums
 pub mod Methods
 pub mod LawProofs

@@ -1,6 +1,7 @@
 -- What a multiplier is, what it answers, and what its buffers then hold.
-use Rattle.std.specs.Prelude.{◌≡◌, ℕ, ◌+◌, ◌^◌, ◌<◌, ◌≤◌, ◌⊎◌, List, length, Some, None, Ok, Err, Option, Result, ◌==◌, ◌≢◌, nat_lt, slice_index, nat_le}
-use Rattle.std.specs.List.{prefix_len}
+use Rattle.std.specs.Prelude.{◌≡◌, ℕ, ◌+◌, ◌^◌, ◌<◌, ◌≤◌, ◌⊎◌, ◌==◌, ◌≢◌, nat_le}
+use Rattle.std.specs.Prelude.{List, length, Some, None, Ok, Err, Option, Result}
+use Rattle.ring.specs.Elements.{AllBelow, FirstNotBelow, front_below}
 use Rattle.ring.specs.Faults.{checked}
 use Rattle.ring.specs.Residues.{IsModulus}
 use Rattle.ring.specs.declared.fault.Fault.{Fault}
@@ -21,14 +22,6 @@ abbrev pub ring_from : ℕ → ℕ → Option QuotientRing → Type 0
 ring_from n q (Some ring) = (ring.degree ≡ n) × (ring.modulus.q ≡ q) × IsDegree n × IsModulus q
 ring_from n q None = IsDegree n × IsModulus q → ⊥
 
--- how many come before the first that is not below q
-abbrev pub prefix_below : ℕ → List ℕ → ℕ
-prefix_below q xs = prefix_len (λ x. nat_lt x q) xs
-
--- each number is below q
-abbrev pub AllBelow : ℕ → List ℕ → Type 0
-AllBelow q xs = (k : ℕ) → k < length xs → slice_index xs k < q
-
 -- what is answered to two lists, and to scratch and an output of so many words
 abbrev pub multiply_answer : (n q need : ℕ) (left right : List ℕ) (scratch output : ℕ) → Result (Unit {0}) Fault
 multiply_answer n q need left right scratch output =
@@ -36,24 +29,22 @@ multiply_answer n q need left right scratch output =
     (checked (length right == n) (WrongLength 2)
     (checked (nat_le need scratch) (WrongLength 3)
     (checked (output == n) (WrongLength 4)
-    (checked (nat_le n (prefix_below q left)) (OutOfRange (prefix_below q left))
-    (checked (nat_le n (prefix_below q right)) (OutOfRange (n + prefix_below q right))
+    (checked (nat_le n (front_below q left)) (OutOfRange (front_below q left))
+    (checked (nat_le n (front_below q right)) (OutOfRange (n + front_below q right))
     (Ok tt))))))
+
+-- the two lists, scratch and the output are as long as they have to be
+pub record LengthsFit (n need left right scratch output : ℕ) : Type 0 where
+  pub left_long : left ≡ n
+  pub right_long : right ≡ n
+  pub scratch_long : need ≤ scratch
+  pub output_long : output ≡ n
 
 -- the lists and buffers fit, and every number is below q
 pub record Fitting (n q need : ℕ) (left right : List ℕ) (scratch output : ℕ) : Type 0 where
-  pub left_long : length left ≡ n
-  pub right_long : length right ≡ n
-  pub scratch_long : need ≤ scratch
-  pub output_long : output ≡ n
+  pub lengths : LengthsFit n need (length left) (length right) scratch output
   pub left_below : AllBelow q left
   pub right_below : AllBelow q right
-
--- i is the index of the first number that is not below q
-pub record FirstNotBelow (q : ℕ) (xs : List ℕ) (i : ℕ) : Type 0 where
-  pub inside : i < length xs
-  pub before : (k : ℕ) → k < i → slice_index xs k < q
-  pub here : q ≤ slice_index xs i
 
 -- place is the first whose length is wrong: 1 left, 2 right, 3 scratch, 4 output
 abbrev pub FirstWrongLength : (n need left right scratch output place : ℕ) → Type 0
@@ -63,13 +54,20 @@ FirstWrongLength n need left right scratch output place =
     ⊎ ((right ≡ n) × (((place ≡ 3) × (scratch < need))
     ⊎ ((need ≤ scratch) × (place ≡ 4) × (output ≢ n))))))
 
+-- place is that of the first number that is not below q: i in the left list, or n + i in the right one, where all of the
+-- left are below q
+abbrev pub FirstOutOfRange : (n q : ℕ) (left right : List ℕ) (place : ℕ) → Type 0
+FirstOutOfRange n q left right place =
+    FirstNotBelow q left place
+    ⊎ (AllBelow q left × ((i : ℕ) × (place ≡ n + i) × FirstNotBelow q right i))
+
 -- what each answer says of the lists and buffers: that they fit, or where they first do not, lengths before numbers
 abbrev pub MultiplyMeans : (n q need : ℕ) (left right : List ℕ) (scratch output : ℕ) → Result (Unit {0}) Fault → Type 0
 MultiplyMeans n q need left right scratch output (Ok _) = Fitting n q need left right scratch output
 MultiplyMeans n q need left right scratch output (Err (WrongLength place)) =
     FirstWrongLength n need (length left) (length right) scratch output place
 MultiplyMeans n q need left right scratch output (Err (OutOfRange place)) =
-    FirstNotBelow q left place ⊎ (AllBelow q left × ((i : ℕ) × (place ≡ n + i) × FirstNotBelow q right i))
+    LengthsFit n need (length left) (length right) scratch output × FirstOutOfRange n q left right place
 MultiplyMeans n q need left right scratch output (Err (SumTooLarge place)) = ⊥
 MultiplyMeans n q need left right scratch output (Err (CoinOutOfRange place)) = ⊥
 MultiplyMeans n q need left right scratch output (Err (SourceSpent place)) = ⊥
@@ -79,3 +77,10 @@ abbrev pub MultiplyRefusesTheFirst : Type 0
 MultiplyRefusesTheFirst =
     (n q need : ℕ) (left right : List ℕ) (scratch output : ℕ)
     → MultiplyMeans n q need left right scratch output (multiply_answer n q need left right scratch output)
+
+-- and what fits is accepted
+abbrev pub MultiplyAcceptsWhatFits : Type 0
+MultiplyAcceptsWhatFits =
+    (n q need : ℕ) (left right : List ℕ) (scratch output : ℕ)
+    → Fitting n q need left right scratch output
+    → multiply_answer n q need left right scratch output ≡ Ok tt

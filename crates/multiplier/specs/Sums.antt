@@ -1,8 +1,8 @@
 -- The sums that the two multipliers add up in natural numbers, before one reduction modulo q.
 use Rattle.std.specs.Prelude.{◌≡◌, ℕ, zero, suc, ◌+◌, ◌-◌, ◌*◌, ◌%◌, ◌^◌, ◌≤◌, List, map, length, pos, slice_index}
+use Rattle.ring.specs.Elements.{AllBelow}
 use Rattle.ring.specs.Residues.{residue}
 use Rattle.element.specs.Products.{coefficient, at}
-use Rattle.multiplier.specs.Multipliers.{AllBelow}
 
 -- f 0 + .. + f (m - 1)
 unfoldable pub nat_sum : ℕ → (ℕ → ℕ) → ℕ

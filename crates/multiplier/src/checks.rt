@@ -1,6 +1,7 @@
 // What is tested before a product is made.
 ghost use Rattle.std.specs.Prelude.{◌≡◌, Ok, Err, IfOk, MatchOption, MatchResult};
-ghost use Rattle.multiplier.specs.Multipliers.{AllBelow, FirstNotBelow, MultiplyRefusesTheFirst, multiply_answer};
+ghost use Rattle.ring.specs.Elements.{AllBelow, FirstNotBelow};
+ghost use Rattle.multiplier.specs.Multipliers.{MultiplyAcceptsWhatFits, MultiplyRefusesTheFirst, multiply_answer};
 
 use crate::factors::Factors;
 use crate::quotient::QuotientRing;
@@ -15,7 +16,7 @@ fn first_not_below(xs: &[u32], q: u32) -> Option<usize>
 
 impl<'a> Factors<'a> {
     // The two lists, if they and the buffers fit the ring and the need, or the first fault.
-    #[tactic(auto, using(crate::proofs::Refusals::front_stops, crate::proofs::Refusals::front_reaches))]
+    #[tactic(auto, using(ring::proofs::Elements::front_stops, ring::proofs::Elements::front_reaches))]
     pub(crate) fn check(
         ring: QuotientRing,
         need: usize,
@@ -61,7 +62,8 @@ impl<'a> Factors<'a> {
 
 // Multiplying accepts exactly the lists and buffers that fit, and refuses any others at the first place where they do
 // not.
-#[tactic(auto, using(crate::proofs::Refusals::multiply_means))]
+#[tactic(auto, using(crate::proofs::Refusals::multiply_means, crate::proofs::Refusals::fitting_is_accepted))]
 pub fn multiply_refuses_the_first()
-    ensures { MultiplyRefusesTheFirst }
+    ensures refuses { MultiplyRefusesTheFirst }
+    ensures accepts { MultiplyAcceptsWhatFits }
 {}

@@ -6,8 +6,7 @@ use crate::factors::Factors;
 use crate::method::Method;
 use crate::multiplier::Multiplier;
 use crate::quotient::QuotientRing;
-use crate::scratch::ScratchGuard;
-use ring::Fault;
+use ring::{Fault, ScratchGuard};
 use std::marker::PhantomData;
 
 // Multiplies elements of a ring by the method M.
@@ -49,6 +48,7 @@ impl<M: Method> Multiplier for InRing<M> {
         M::WORDS * self.ring.degree()
     }
 
+    #[tactic(auto, using(crate::proofs::Refusals::answer_means, crate::proofs::Written::product_is_element))]
     fn multiply(
         &mut self,
         left: &[u32],

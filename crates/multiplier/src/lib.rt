@@ -10,7 +10,6 @@ mod quotient;
 mod row_sum;
 mod rows;
 mod schoolbook;
-mod scratch;
 
 pub use checks::multiply_refuses_the_first;
 pub use multiplier::Multiplier;

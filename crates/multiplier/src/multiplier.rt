@@ -1,14 +1,15 @@
 // What a multiplier is to generic code.
-ghost use Rattle.std.specs.Prelude.{◌≡◌, ℕ, length};
+ghost use Rattle.std.specs.Prelude.{◌≡◌, ℕ, length, OnOk};
 ghost use Rattle.element.specs.Products.{product};
+ghost use Rattle.ring.specs.Elements.{IsElement};
 ghost use Rattle.ring.specs.Faults.{after};
-ghost use Rattle.multiplier.specs.Multipliers.{InRange, multiply_answer};
-ghost use Rattle.multiplier.specs.Scratch.{zeroed};
+ghost use Rattle.ring.specs.Scratch.{zeroed};
+ghost use Rattle.multiplier.specs.Multipliers.{InRange, MultiplyMeans, multiply_answer};
 
 use ring::Fault;
 
 // Multiplies elements of one ring.
-pub trait Multiplier {
+pub trait Multiplier: Drop {
     // the degree and the modulus of the ring
     ghost n: { Self → ℕ };
 
@@ -36,7 +37,10 @@ pub trait Multiplier {
     ) -> Result<(), Fault>
         ensures answer { result ≡ multiply_answer (n self.old) (q self.old) (need self.old) left.now right.now
             (length scratch.old) (length output.old) }
+        ensures means { MultiplyMeans (n self.old) (q self.old) (need self.old) left.now right.now
+            (length scratch.old) (length output.old) result }
         ensures writes { output.new ≡ after result (product (n self.old) (q self.old) left.now right.now) output.old }
+        ensures element { OnOk result (IsElement (n self.old) (q self.old) output.new) }
         ensures clears { scratch.new ≡ zeroed scratch.old }
         ensures same_degree { n self.new ≡ n self.old }
         ensures same_modulus { q self.new ≡ q self.old }

@@ -8,7 +8,7 @@ use Rattle.std.proofs.Math.Seq.{take-add}
 use borrow.Rule.Slice.PartMut.{put_mid}
 use Rattle.std.specs.Simd.{first_chunks}
 use Rattle.std.proofs.lemmas.Nat.{mul-le, pow_pos}
-use Rattle.profile.specs.Lengths.{packed_length}
+use Rattle.packing.specs.Lengths.{packed_length}
 use Rattle.packing.specs.Packing.{number, digits, packed, AllFit}
 use Rattle.packing.proofs.PackedLengths.{by_eights}
 use Rattle.packing.proofs.Digits.{worth, length-digits, digits_append, digits_below, number_append, number_below}

@@ -7,7 +7,7 @@ use Rattle.std.proofs.lemmas.List.Elements.{All-take}
 use Rattle.std.proofs.lemmas.Nat.{pow_pos}
 use Rattle.std.proofs.lemmas.Slice.{take-put_mid}
 use borrow.Rule.Slice.PartMut.{put_mid}
-use Rattle.profile.specs.Lengths.{packed_length}
+use Rattle.packing.specs.Lengths.{packed_length}
 use Rattle.packing.specs.Packing.{number, digits, unpacked, AllFit}
 use Rattle.packing.proofs.Digits.{length-digits, digits_append, digits_below, number_append, number_below}
 use Rattle.packing.proofs.PackedLengths.{by_eights}

@@ -5,25 +5,16 @@ use Rattle.std.specs.List.{AllWithin}
 use Rattle.std.proofs.lemmas.List.{get_or_default}
 use Rattle.std.proofs.lemmas.Nat.{le_or_l, le_or_r}
 use Rattle.std.specs.Prelude.{All}
-use Rattle.std.proofs.lemmas.Bool.{ltb-true, ltb-false, cases_lt}
-use Rattle.std.proofs.lemmas.List.Elements.{All-from_get_or}
-use Rattle.std.proofs.lemmas.List.Sums.{prefix_len_passes, prefix_len_stops, prefix_len-le-length}
+use Rattle.std.proofs.lemmas.Bool.{cases_lt}
+use Rattle.std.proofs.lemmas.List.Sums.{prefix_len-le-length}
+use Rattle.ring.proofs.Elements.{front_reaches}
 use Rattle.packing.specs.Packing.{AllFit, front_fitting}
-
--- a front that is the whole list
-pub all_fit : (w : ℕ) (xs : List ℕ) → length xs ≤ front_fitting w xs → AllFit w xs
-all_fit w xs whole =
-    All-from_get_or (λ x. x < 2 ^ w) xs 0 (λ k inside. ltb-true _ _ (prefix_len_passes (λ x. ltb x (2 ^ w)) xs k 0 (omega arith)))
 
 -- numbers that are all at most one that fits
 pub front_is_whole : (w : ℕ) (xs : List ℕ) (most : ℕ) → All (λ x. x ≤ most) xs → most < 2 ^ w → length xs ≡ front_fitting w xs
 front_is_whole w xs most within fits =
-    ⊎_elim
-    (λ (stops : front_fitting w xs < length xs).
-    let beyond = ltb-false _ _ (prefix_len_stops (λ x. ltb x (2 ^ w)) xs 0 stops) in
-    absurd (omega (arith, beyond, within (front_fitting w xs) 0 stops)))
-    (λ (all : length xs ≤ front_fitting w xs). omega (arith, prefix_len-le-length (λ x. ltb x (2 ^ w)) xs))
-    (cases_lt (front_fitting w xs) (length xs))
+    let fit : AllFit w xs = λ k d inside. omega (arith, within k d inside) in
+    omega (arith, front_reaches (2 ^ w) xs fit, prefix_len-le-length (λ x. ltb x (2 ^ w)) xs)
 
 -- the bits of numbers together are no less than any of them
 pub none_within : (xs : List ℕ) (most : ℕ) → AllWithin (λ x. x ≤ most) xs 0 0

@@ -1,7 +1,7 @@
 -- The laws of packing.
 use Rattle.std.proofs.Common.{◌≡◌, ℕ, ◌+◌, ◌*◌, ◌^◌, ◌<◌, ◌≤◌, List, length, sym, ap, ◌∙◌, arith}
 use Rattle.std.specs.Int.{bit_at}
-use Rattle.profile.specs.Lengths.{packed_length}
+use Rattle.packing.specs.Lengths.{packed_length}
 use Rattle.packing.specs.Packing.{number, digits, packed, unpacked, AllFit}
 use Rattle.packing.specs.PackingLaws.{PackingIsLawful, PackingLaws, SpareClear, bit_of}
 use Rattle.packing.proofs.Bits.{bit_of_digit, bit_of_digits, bit_after, bit_of_bytes, below_from_bits}
@@ -44,6 +44,8 @@ module _ (w : ℕ) where
 
   laws : PackingLaws w
   laws = record {
+    enough_bytes = room;
+    no_byte_more = λ many. omega arith;
     in_place = λ xs i k fit inside low. bits_packed xs (i * w + k) fit ∙ bit_of_digit w xs i k fit inside low;
     spare_clear = λ xs fit j after. bits_packed xs j fit ∙ bit_after w xs j fit after;
     read_in_place = λ many bytes i k fit inside low. bit_of_digits w many (number 8 bytes) i k inside low ∙ sym (bit_of_bytes bytes (i * w + k) fit);

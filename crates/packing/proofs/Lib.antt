@@ -8,3 +8,4 @@ pub mod Eights
 pub mod Splitting
 pub mod EightsBack
 pub mod Laws
+pub mod Refusals

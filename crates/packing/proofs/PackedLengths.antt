@@ -2,7 +2,7 @@
 use Rattle.std.proofs.Common.{◌≡◌, ℕ, ◌+◌, ◌*◌, ◌/◌, ◌%◌, sym, ap, ◌∙◌, arith}
 use Rattle.std.proofs.Math.Nat.{add-mul, mul_right_comm}
 use Rattle.std.proofs.lemmas.Nat.{div-add-mod'}
-use Rattle.profile.specs.Lengths.{packed_length}
+use Rattle.packing.specs.Lengths.{packed_length}
 
 -- so many whole eights, and what is left over
 pub by_eights : (many w : ℕ) → many / 8 * w + (many % 8 * w + 7) / 8 ≡ packed_length many w

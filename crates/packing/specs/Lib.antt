@@ -1,3 +1,5 @@
+pub mod Lengths
 pub mod Packing
 pub mod PackingLaws
+pub mod Refusals
 pub mod Widths

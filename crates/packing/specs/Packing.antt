@@ -1,10 +1,11 @@
 -- Numbers of a few bits each, one after another, low bit first, as bytes.
-use Rattle.std.specs.Prelude.{nat_le, ℕ, zero, suc, ◌+◌, ◌*◌, ◌/◌, ◌%◌, ◌^◌, ◌<◌, ltb, List, [], ◌∷◌, length, ◌==◌, Ok, Result, All}
-use Rattle.std.specs.List.{prefix_len}
+use Rattle.std.specs.Prelude.{ℕ, zero, suc, ◌+◌, ◌*◌, ◌/◌, ◌%◌, ◌^◌, ◌==◌, nat_le}
+use Rattle.std.specs.Prelude.{List, [], ◌∷◌, length, Ok, Result}
+use Rattle.ring.specs.Elements.{AllBelow, front_below}
 use Rattle.ring.specs.Faults.{checked}
 use Rattle.ring.specs.declared.fault.Fault.{Fault}
 use Rattle.ring.specs.declared.fault.Fault.TheVariants.{WrongLength, OutOfRange}
-use Rattle.profile.specs.Lengths.{packed_length}
+use Rattle.packing.specs.Lengths.{packed_length}
 
 -- what digits of w bits stand for, the lowest digit first
 abbrev pub number : (w : ℕ) → List ℕ → ℕ
@@ -24,12 +25,13 @@ packed w xs = digits 8 (packed_length (length xs) w) (number w xs)
 abbrev pub unpacked : (w many : ℕ) → List ℕ → List ℕ
 unpacked w many bytes = digits w many (number 8 bytes)
 
+-- none has more than w bits
 abbrev pub AllFit : (w : ℕ) → List ℕ → Type 0
-AllFit w xs = All (λ x. x < 2 ^ w) xs
+AllFit w xs = AllBelow (2 ^ w) xs
 
 -- how many come before the first that has more than w bits
 abbrev pub front_fitting : (w : ℕ) → List ℕ → ℕ
-front_fitting w xs = prefix_len (λ x. ltb x (2 ^ w)) xs
+front_fitting w xs = front_below (2 ^ w) xs
 
 -- packing numbers of w bits into so much room
 abbrev pub pack_answer : (w : ℕ) → List ℕ → (room : ℕ) → Result (Unit {0}) Fault

@@ -1,7 +1,7 @@
 -- What packing is, bit by bit, and how it and unpacking undo each other.
 use Rattle.std.specs.Prelude.{◌≡◌, ℕ, ◌+◌, ◌*◌, ◌/◌, ◌%◌, ◌<◌, ◌≤◌, List, length, slice_index}
 use Rattle.std.specs.Int.{bit_at}
-use Rattle.profile.specs.Lengths.{packed_length}
+use Rattle.packing.specs.Lengths.{packed_length}
 use Rattle.packing.specs.Packing.{AllFit, packed, unpacked}
 
 -- bit j of bytes: each has eight of them, the low bit first
@@ -14,6 +14,9 @@ SpareClear w many bytes = (j : ℕ) → many * w ≤ j → bit_of bytes j ≡ 0
 
 -- for numbers of w bits
 pub record PackingLaws (w : ℕ) : Type 0 where
+  -- as many bytes as the bits need, and no byte more
+  pub enough_bytes : (many : ℕ) → many * w ≤ packed_length many w * 8
+  pub no_byte_more : (many : ℕ) → packed_length many w * 8 < many * w + 8
   -- number i is at the bits i w .. i w + w - 1
   pub in_place : (xs : List ℕ) (i k : ℕ) → AllFit w xs → i < length xs → k < w → bit_of (packed w xs) (i * w + k) ≡ bit_at (slice_index xs i) k
   -- and nothing is after them

@@ -1,6 +1,6 @@
 // Widths, and the bytes that so many numbers of a width take.
-ghost use Rattle.std.specs.Prelude.{◌≡◌, ◌^◌, length, ltb};
-ghost use Rattle.profile.specs.Lengths.{packed_length};
+ghost use Rattle.std.specs.Prelude.{◌≡◌, ◌^◌, ltb};
+ghost use Rattle.packing.specs.Lengths.{packed_length};
 ghost use Rattle.packing.specs.Widths.{width_from};
 
 use crate::width::Width;
@@ -31,13 +31,10 @@ impl Width {
         x < 1 << self.bits
     }
 
-    // How many bytes these numbers take. Eight numbers take as many bytes as each has bits.
-    #[tactic(auto, using(crate::proofs::PackedLengths::by_eights))]
-    pub fn packed_length(self, numbers: &[u32]) -> usize
-        ensures { result ≡ packed_length (length numbers.now) self.bits }
+    // How many bytes so many numbers take.
+    pub fn packed_length(self, count: usize) -> u128
+        ensures { result ≡ packed_length count self.bits }
     {
-        let many = numbers.len();
-        let width = self.bits as usize;
-        many / 8 * width + (many % 8 * width).div_ceil(8)
+        (count as u128 * u128::from(self.bits)).div_ceil(8)
     }
 }

@@ -4,12 +4,10 @@
 mod fields;
 mod lengths;
 mod pack;
-mod profiles;
 mod theorems;
 mod unpack;
 mod width;
 
 pub use fields::Fields;
-pub use profiles::{signals_width, values_width};
-pub use theorems::packing_is_lawful;
+pub use theorems::{packing_is_lawful, packing_refuses_the_first};
 pub use width::Width;

@@ -1,8 +1,11 @@
 // Packing: from numbers to bytes.
-ghost use Rattle.std.specs.Prelude.{◌≡◌, ◌≤◌, ◌<◌, All, IfOk, MatchResult, OnOk, length};
+ghost use Rattle.std.specs.Prelude.{◌≡◌, ◌^◌, ◌≤◌, ◌<◌, All, IfOk, MatchResult, OnOk, length};
+ghost use Rattle.ring.specs.Elements.{FirstNotBelow};
 ghost use Rattle.ring.specs.Faults.{after};
-ghost use Rattle.profile.specs.Lengths.{packed_length};
-ghost use Rattle.packing.specs.Packing.{AllFit, front_fitting, number, pack_answer, pack_numbers_answer, packed, unpacked};
+ghost use Rattle.packing.specs.Lengths.{packed_length};
+ghost use Rattle.packing.specs.Packing.{AllFit, front_fitting, number, packed, unpacked};
+ghost use Rattle.packing.specs.Packing.{pack_answer, pack_numbers_answer};
+ghost use Rattle.packing.specs.Refusals.{PackMeans, PackNumbersMeans};
 
 use crate::fields::Fields;
 use crate::width::Width;
@@ -10,11 +13,14 @@ use ring::Fault;
 
 impl<'a> Fields<'a> {
     // The list, or the index of the first number that has more bits than the width.
-    #[tactic(auto, using(crate::proofs::Fitting::all_fit))]
+    #[tactic(auto, using(ring::proofs::Elements::all_below, ring::proofs::Elements::first_not_below))]
     pub fn check(width: Width, numbers: &'a [u32]) -> Result<Self, usize>
         ensures answer { MatchResult result
             (λ _. length numbers.now ≤ front_fitting width.bits numbers.now)
             (λ i. (i ≡ front_fitting width.bits numbers.now) × (i < length numbers.now)) }
+        ensures means { MatchResult result
+            (λ _. AllFit width.bits numbers.now)
+            (λ i. FirstNotBelow (2 ^ width.bits) numbers.now i) }
         ensures same_width { IfOk result (λ fields. fields.width ≡ width) }
         ensures same_numbers { IfOk result (λ fields. fields.numbers.now ≡ numbers.now) }
     {
@@ -28,12 +34,13 @@ impl<'a> Fields<'a> {
     // Writes the bytes of the numbers into `output`, which has to have their length.
     pub fn pack(self, output: &mut [u8]) -> Result<(), Fault>
         ensures answer { result ≡ pack_answer self.entry.width.bits self.entry.numbers.now (length output.old) }
+        ensures means { PackMeans self.entry.width.bits self.entry.numbers.now (length output.old) result }
         ensures writes { output.new ≡ after result (packed self.entry.width.bits self.entry.numbers.now) output.old }
         ensures unpacks_back { let w = self.entry.width.bits in let xs = self.entry.numbers.now in
             OnOk result (unpacked w (length xs) output.new ≡ xs) }
     {
         let Fields { width, numbers } = self;
-        if output.len() != width.packed_length(numbers) {
+        if output.len() as u128 != width.packed_length(numbers.len()) {
             return Err(Fault::WrongLength(4));
         }
         let size = width.bits as usize;
@@ -50,10 +57,11 @@ impl Width {
     // Packs numbers, of which each has to have no more bits than the width. A wrong length is found before them.
     pub fn pack(self, numbers: &[u32], output: &mut [u8]) -> Result<(), Fault>
         ensures answer { result ≡ pack_numbers_answer self.bits numbers.now (length output.old) }
+        ensures means { PackNumbersMeans self.bits numbers.now (length output.old) result }
         ensures writes { output.new ≡ after result (packed self.bits numbers.now) output.old }
         ensures unpacks_back { OnOk result (unpacked self.bits (length numbers.now) output.new ≡ numbers.now) }
     {
-        if output.len() != self.packed_length(numbers) {
+        if output.len() as u128 != self.packed_length(numbers.len()) {
             return Err(Fault::WrongLength(4));
         }
         let fields = Fields::check(self, numbers).map_err(Fault::OutOfRange)?;

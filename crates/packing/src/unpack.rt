@@ -1,9 +1,10 @@
 // Unpacking: from bytes to numbers.
 ghost use Rattle.std.specs.Prelude.{◌≡◌, ◌%◌, ◌^◌, ◌≤◌, OnOk, length};
 ghost use Rattle.ring.specs.Faults.{after};
-ghost use Rattle.profile.specs.Lengths.{packed_length};
+ghost use Rattle.packing.specs.Lengths.{packed_length};
 ghost use Rattle.packing.specs.Packing.{AllFit, digits, packed, unpack_answer, unpacked};
 ghost use Rattle.packing.specs.PackingLaws.{SpareClear};
+ghost use Rattle.packing.specs.Refusals.{UnpackMeans};
 
 use crate::width::Width;
 use ring::Fault;
@@ -13,12 +14,13 @@ impl Width {
     // Spare bits are not looked at.
     pub fn unpack(self, bytes: &[u8], numbers: &mut [u32]) -> Result<(), Fault>
         ensures answer { result ≡ unpack_answer self.bits bytes.now (length numbers.old) }
+        ensures means { UnpackMeans self.bits bytes.now (length numbers.old) result }
         ensures reads { numbers.new ≡ after result (unpacked self.bits (length numbers.old) bytes.now) numbers.old }
         ensures fit { OnOk result (AllFit self.bits numbers.new) }
         ensures packs_back { SpareClear self.bits (length numbers.old) bytes.now
             → OnOk result (packed self.bits numbers.new ≡ bytes.now) }
     {
-        if bytes.len() != self.packed_length(numbers) {
+        if bytes.len() as u128 != self.packed_length(numbers.len()) {
             return Err(Fault::WrongLength(1));
         }
         let size = self.bits as usize;

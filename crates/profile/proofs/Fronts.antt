@@ -1,11 +1,12 @@
 -- How far a list keeps within a bound: one step of the running sum, what a front that is the whole list says, and what one that ends before it.
-use Rattle.std.proofs.Common.{◌≡◌, ℕ, suc, ◌+◌, ◌<◌, ◌≤◌, eqb, leb, List, [], ◌∷◌, length, get_or, take, drop, length-take, ℤ, pos, nat_abs, sum_by, sym, refl, ◌∙◌, subst, ⊎_elim, add-one, one-add, arith}
+use Rattle.std.proofs.Common.{inl, inr, ◌≡◌, ℕ, suc, ◌+◌, ◌<◌, ◌≤◌, eqb, leb, List, [], ◌∷◌, length, get_or, take, drop, ℤ, pos, nat_abs, sum_by, sym, refl, ◌∙◌, subst, ⊎_elim, add-one, one-add, arith}
 use Rattle.std.specs.Prelude.{All}
-use Rattle.std.proofs.lemmas.List.Elements.{All-from_get_or}
-use Rattle.std.proofs.lemmas.List.{at_drop_more, at_drop_all, get_or-take}
-use Rattle.std.proofs.lemmas.List.Sums.{sum_by-cons, prefix_len_passes, prefix_len_stops}
+use Rattle.std.proofs.lemmas.List.{at_drop_more, at_drop_all}
+use Rattle.std.proofs.lemmas.List.Sums.{sum_by-cons, prefix_len_stops}
 use Rattle.std.proofs.lemmas.Bool.{cases_Bool, cond-true, cond-false, cond_both, le-leb, lt-leb, leb-true, leb-false, eqb-true, eqb-false}
-use Rattle.profile.specs.Secrets.{Bounds, FillMeans, FirstBeyond, FirstPast, LawfulSecret, fill_answer, front_within, front_summing}
+use Rattle.profile.specs.declared.bounds.Bounds.{Bounds}
+use Rattle.ring.proofs.Elements.{whole_passes, front_passes, whole_or_first}
+use Rattle.profile.specs.Secrets.{FillMeans, FirstBeyond, IsFrontWithin, FirstPast, LawfulSecret, fill_answer, front_within, front_summing}
 
 module _ (xs : List ℤ) (i sum l : ℕ) where
   pub summing_more : i < length xs → sum + nat_abs (get_or xs i (pos 0)) ≤ l → front_summing sum l (drop i xs) ≡ 1 + front_summing (sum + nat_abs (get_or xs i (pos 0))) l (drop (i + 1) xs)
@@ -22,8 +23,7 @@ pub ruleset summing_steps = (summing_more, summing_stop, summing_end)
 -- ---- a front that is the whole list
 
 all_within : (e : ℕ) (xs : List ℤ) → length xs ≤ front_within e xs → All (λ x. nat_abs x ≤ e) xs
-all_within e xs h =
-    All-from_get_or (λ x. nat_abs x ≤ e) xs (pos 0) (λ k lt. leb-true _ _ (prefix_len_passes (λ y. leb (nat_abs y) e) xs k (pos 0) (omega arith)))
+all_within e xs h = whole_passes (λ x. leb (nat_abs x) e) (λ x. nat_abs x ≤ e) (λ x t. leb-true _ _ t) xs (pos 0) h
 
 sum_within : (sum l : ℕ) (xs : List ℤ) → sum ≤ l → length xs ≤ front_summing sum l xs → sum + sum_by nat_abs xs ≤ l
 sum_within sum l [] start h = omega arith
@@ -46,15 +46,18 @@ lawful_within b xs long small light = record {
 -- ---- a front that ends within the list
 
 pub within_first : (e : ℕ) (xs : List ℤ) → front_within e xs < length xs → FirstBeyond e xs (front_within e xs)
-within_first e xs h =
-    let i = front_within e xs in
-    record {
-      inside = h;
-      before = All-from_get_or (λ x. nat_abs x ≤ e) (take i xs) (pos 0) (λ k lt.
-          let inside : k < i = omega (arith, length-take i xs) in
-          rw (get_or-take i xs k (pos 0) inside) (leb-true _ _ (prefix_len_passes (λ y. leb (nat_abs y) e) xs k (pos 0) inside)));
-      here = leb-false _ _ (prefix_len_stops (λ y. leb (nat_abs y) e) xs (pos 0) h);
-    }
+within_first e xs h = record {
+  inside = h;
+  before = front_passes (λ x. leb (nat_abs x) e) (λ x. nat_abs x ≤ e) (λ x t. leb-true _ _ t) xs (pos 0) (omega arith);
+  here = leb-false _ _ (prefix_len_stops (λ x. leb (nat_abs x) e) xs (pos 0) h);
+}
+
+pub is_front_within : (e : ℕ) (xs : List ℤ) → IsFrontWithin e xs (front_within e xs)
+is_front_within e xs =
+    ⊎_elim
+    (λ whole. inl (whole, all_within e xs (omega arith)))
+    (λ shorter. inr (within_first e xs shorter))
+    (whole_or_first (λ x. leb (nat_abs x) e) xs)
 
 -- i is where the sum, running on from `sum`, first passes l
 abbrev PastFrom : ℕ → ℕ → List ℤ → ℕ → Type 0

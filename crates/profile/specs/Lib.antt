@@ -3,4 +3,4 @@ pub mod Laws
 pub mod Answers
 pub mod Secrets
 pub mod Places
-pub mod Lengths
+pub mod LawProofs

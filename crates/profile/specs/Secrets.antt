@@ -1,25 +1,17 @@
 -- What a secret is, and what a place for one answers and holds.
-use Rattle.std.specs.Prelude.{◌≡◌, ℕ, ◌+◌, ◌<◌, ◌≤◌, leb, List, [], ◌∷◌, length, take, replicate, ℤ, pos, Some, None, Ok, Err, sum_by, Option, Result, ◌==◌, ◌≢◌, nat_le, slice_index_or, unsigned_abs, if◌then◌else◌, All}
+use Rattle.std.specs.Prelude.{◌≡◌, ℕ, ◌+◌, ◌<◌, ◌≤◌, ◌⊎◌, leb, List, [], ◌∷◌, length, take, replicate, ℤ, pos, Some, None, Ok, Err, sum_by, Option, Result, ◌==◌, ◌≢◌, nat_le, slice_index_or, unsigned_abs, if◌then◌else◌, All}
 use Rattle.std.specs.Borrow.{Bor}
 use Rattle.std.specs.List.{prefix_len}
 use Rattle.ring.specs.Faults.{checked}
 use Rattle.ring.specs.declared.fault.Fault.{Fault}
 use Rattle.ring.specs.declared.fault.Fault.TheVariants.{WrongLength, OutOfRange, SumTooLarge, CoinOutOfRange, SourceSpent}
+use Rattle.profile.specs.declared.bounds.Bounds.{Bounds}
 use Rattle.profile.specs.declared.numbers.Numbers.{Numbers}
-
--- n coefficients, each of size at most e, with sizes that add up to at most l
-pub record Bounds : Type 0 where
-  pub n : ℕ
-  pub e : ℕ
-  pub l : ℕ
 
 abbrev pub bounds_of : Numbers → Bounds
 bounds_of k = record { n = k.n; e = k.e; l = k.l }
 
--- what the secret of a place is held to, for its three parameters
-abbrev pub place_bounds : ℕ → ℕ → ℕ → Bounds
-place_bounds n e l = record { n = n; e = e; l = l }
-
+-- n coefficients, each of size at most e, with sizes that add up to at most l
 pub record LawfulSecret (b : Bounds) (xs : List ℤ) : Type 0 where
   pub long : length xs ≡ b.n
   pub small : All (λ x. unsigned_abs x ≤ b.e) xs
@@ -49,6 +41,10 @@ pub record FirstBeyond (e : ℕ) (xs : List ℤ) (i : ℕ) : Type 0 where
   pub before : All (λ x. unsigned_abs x ≤ e) (take i xs)
   pub here : e < unsigned_abs (slice_index_or xs i (pos 0))
 
+-- front coefficients are within e: all that there are, or the first other one comes after them
+abbrev pub IsFrontWithin : (e : ℕ) → List ℤ → (front : ℕ) → Type 0
+IsFrontWithin e xs front = ((front ≡ length xs) × All (λ x. unsigned_abs x ≤ e) xs) ⊎ FirstBeyond e xs front
+
 -- i is the index where the running sum of sizes first passes l
 pub record FirstPast (l : ℕ) (xs : List ℤ) (i : ℕ) : Type 0 where
   pub inside : i < length xs
@@ -75,3 +71,9 @@ shown None = None
 
 abbrev pub zeros : ℕ → List ℤ
 zeros n = replicate n (pos 0)
+
+-- what a place is at every moment: unfilled, with n words of 0, or holding a lawful secret, which is its n words
+pub record UnfilledOrLawful (b : Bounds) (held : Option (List ℤ)) (words : List ℤ) : Type 0 where
+  pub unfilled : held ≡ None → words ≡ zeros b.n
+  pub lawful : (xs : List ℤ) → held ≡ Some xs → LawfulSecret b xs
+  pub in_words : (xs : List ℤ) → held ≡ Some xs → words ≡ xs

@@ -1,38 +1,46 @@
 // What a secret place does.
 ghost use Rattle.profile.specs.Places.{place_held, place_memory};
-ghost use Rattle.profile.specs.Secrets.{place_bounds};
+ghost use Rattle.profile.specs.LawProofs.{place_unfilled_or_lawful};
 
-use crate::place::Place;
+use crate::bounds::SecretBounds;
+use crate::place::{Place, overwrite};
 use crate::secret::SecretPlace;
 use crate::sizes::{front_summing, front_within};
 use ring::Fault;
 use std::alloc::{AllocError, Global};
+use std::marker::PhantomData;
 
-impl<const N: usize, const E: u32, const L: u32> SecretPlace for Place<N, E, L> {
-    ghost bounds = { place_bounds N E L };
+impl<P: SecretBounds> SecretPlace for Place<P> {
+    type Profile = P;
+
+    ghost bounds = { P.BOUNDS };
 
     ghost held = { place_held };
 
     ghost memory = { place_memory };
 
+    ghost unfilled_or_lawful = { place_unfilled_or_lawful };
+
     fn new(alloc: Global) -> Result<Self, AllocError> {
-        let coefficients = vec![in alloc; 0i32; N]?;
+        let coefficients = vec![in alloc; 0i32; P::BOUNDS.n]?;
         Ok(Place {
             coefficients,
             filled: false,
+            profile: PhantomData,
         })
     }
 
     fn fill(&mut self, coefficients: &[i32]) -> Result<(), Fault> {
-        if coefficients.len() != N {
+        let bounds = P::BOUNDS;
+        if coefficients.len() != bounds.n {
             return Err(Fault::WrongLength(1));
         }
-        let within = front_within(coefficients, E);
-        if within < N {
+        let within = front_within(coefficients, bounds.e);
+        if within < bounds.n {
             return Err(Fault::OutOfRange(within));
         }
-        let summing = front_summing(coefficients, L);
-        if summing < N {
+        let summing = front_summing(coefficients, bounds.l);
+        if summing < bounds.n {
             return Err(Fault::SumTooLarge(summing));
         }
         self.coefficients.copy_from_slice(coefficients);
@@ -44,8 +52,12 @@ impl<const N: usize, const E: u32, const L: u32> SecretPlace for Place<N, E, L> 
         self.filled.then_some(self.coefficients.as_slice())
     }
 
+    fn words(&self) -> &[i32] {
+        &self.coefficients
+    }
+
     fn erase(&mut self) {
-        self.coefficients.fill(0);
+        overwrite(&mut self.coefficients);
         self.filled = false;
     }
 }

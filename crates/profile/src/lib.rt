@@ -1,8 +1,9 @@
-// What a profile is: its numbers, its functions and its laws; where a secret of it is held; and how long its messages are.
+// What a profile is: its numbers, its functions and its laws; and where a secret of it is held.
 #![tactic(auto)]
 
+mod bounds;
+mod errors_and_coins;
 mod holding;
-mod lengths;
 mod moduli;
 mod numbers;
 mod place;
@@ -10,10 +11,8 @@ mod profile;
 mod secret;
 mod sizes;
 
-pub use lengths::{
-    HEAD_LENGTH, SEED_LENGTH, answer_length, confirmation_length, key_length, offer_length,
-    signals_length, values_length,
-};
+pub use bounds::{Bounds, SecretBounds};
+pub use errors_and_coins::{coins_below, errors_within};
 pub use moduli::modulus;
 pub use numbers::Numbers;
 pub use place::Place;

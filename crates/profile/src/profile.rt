@@ -11,8 +11,8 @@ use ring::Fault;
 
 // One choice of numbers with one reconciler. Generic code goes by the laws, and never by which profile it is.
 pub trait Profile {
-    // Where a secret of this profile is held.
-    type Secret: SecretPlace;
+    // Where a secret of this profile, and of no other, is held.
+    type Secret: SecretPlace<Profile = Self>;
 
     // The numbers that the profile states, and the same as clauses know them.
     const NUMBERS: Numbers;

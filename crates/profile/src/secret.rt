@@ -1,13 +1,18 @@
 // Where a secret is held.
 ghost use Rattle.std.specs.Prelude.{◌≡◌, List, ℤ, IfOk, Some, None, Option, MatchOption};
 ghost use Rattle.ring.specs.Faults.{after};
-ghost use Rattle.profile.specs.Secrets.{Bounds, LawfulSecret, FillRefusesTheFirst, fill_answer, shown, zeros};
+ghost use Rattle.profile.specs.Secrets.{LawfulSecret, FillRefusesTheFirst, UnfilledOrLawful, fill_answer, shown, zeros};
+ghost use Rattle.profile.specs.declared.bounds.Bounds.{Bounds};
 
 use ring::Fault;
 use std::alloc::{AllocError, Global};
 
-// A place is unfilled, with all its memory zero, or holds a lawful secret.
-pub trait SecretPlace {
+// A place is at every moment unfilled, with all its memory zero, or holds a lawful secret in it. A place that is let go
+// overwrites its memory first.
+pub trait SecretPlace: Drop {
+    // The profile that the place belongs to.
+    type Profile;
+
     ghost bounds: { Bounds };
 
     // the coefficients that are held, if any
@@ -34,10 +39,16 @@ pub trait SecretPlace {
         ensures shows { shown result ≡ held self.now }
         ensures lawful { MatchOption result (held self.now ≡ None) (λ xs. LawfulSecret bounds xs.now) };
 
+    // The memory itself, n words, filled or not.
+    fn words(&self) -> &[i32]
+        ensures { result.now ≡ memory self.now };
+
     // Uses the secret up: the place is unfilled from here on, and its memory zero.
     fn erase(&mut self)
         ensures unfilled { held self.new ≡ None }
         ensures zeroed { memory self.new ≡ zeros bounds.n };
+
+    ghost unfilled_or_lawful: { (place : Self) → UnfilledOrLawful bounds (held place) (memory place) };
 }
 
 // Filling accepts exactly the lawful secrets, and refuses any other list at the first place where it is not one.

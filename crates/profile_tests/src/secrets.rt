@@ -1,10 +1,12 @@
 // Filling and erasing a secret place.
-use profile::{Place, SecretPlace};
+use house::{House, S};
+use profile::{Profile, SecretPlace};
+use reconcile::Ding;
 use ring::Fault;
 use std::test::Fail;
 
-// The place of a secret of the number set S.
-type SecretOfS = Place<512, 2, 191>;
+// The place of a secret of the profile of S with Ding.
+type SecretOfS = <House<S, Ding> as Profile>::Secret;
 
 // 512 coefficients, of which the first `many` are `value`.
 fn leading(many: usize, value: i32) -> [i32; 512] {
@@ -61,7 +63,9 @@ fn refused_keeps_accepted_replaces_erased_holds_nothing(rt: HostRuntime) -> Resu
         Some(&leading(4, 2)[..]),
         "accepted, it holds the new one"
     );
+    assert_eq!(rt; place.words(), &leading(4, 2)[..]);
     place.erase();
     assert!(rt; place.secret().is_none());
+    assert_eq!(rt; place.words(), &leading(0, 1)[..]);
     Ok(())
 }

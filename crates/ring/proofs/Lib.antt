@@ -1,1 +1,3 @@
+pub mod Elements
+pub mod ResidueLaws
 pub mod Residues

@@ -1,2 +1,4 @@
+pub mod Elements
 pub mod Faults
 pub mod Residues
+pub mod Scratch

@@ -1,5 +1,5 @@
 -- Residues modulo an odd q, and their signed forms.
-use Rattle.std.specs.Prelude.{◌≡◌, ℕ, ◌-◌, ◌/◌, ◌%◌, ◌^◌, ◌<◌, ◌≤◌, ℤ, pos, ◌-ℤ◌, Some, None, Ok, Err, Option, Result, nat_le, nat_lt, unsigned_abs, if◌then◌else◌}
+use Rattle.std.specs.Prelude.{◌≡◌, ℕ, ◌-◌, ◌/◌, ◌%◌, ◌^◌, ◌<◌, ◌≤◌, ℤ, pos, ◌+ℤ◌, ◌-ℤ◌, ◌*ℤ◌, Some, None, Ok, Err, Option, Result, nat_le, nat_lt, unsigned_abs, if◌then◌else◌}
 use Rattle.std.specs.Int.{int_rem_euclid}
 use Rattle.ring.specs.Faults.{checked}
 use Rattle.ring.specs.declared.fault.Fault.{Fault}
@@ -9,6 +9,16 @@ use Rattle.ring.specs.declared.modulus.Modulus.{Modulus}
 -- the residue of an integer modulo q, in 0 .. q - 1
 abbrev pub residue : ℕ → ℤ → ℕ
 residue q z = unsigned_abs (int_rem_euclid z (pos q))
+
+-- what it is to be that residue: below q, and a multiple of q away
+pub record IsResidue (q : ℕ) (z : ℤ) (x : ℕ) : Type 0 where
+  pub below : x < q
+  pub congruent : (k : ℤ) × (z ≡ pos x +ℤ k *ℤ pos q)
+
+-- every integer has one residue and no other
+pub record ResidueLaws : Type 0 where
+  pub is_residue : (q : ℕ) (z : ℤ) → 0 < q → IsResidue q z (residue q z)
+  pub only_residue : (q : ℕ) (z : ℤ) (x : ℕ) → IsResidue q z x → x ≡ residue q z
 
 -- the signed form of a residue, in -(q-1)/2 .. (q-1)/2
 abbrev pub signed : ℕ → ℕ → ℤ

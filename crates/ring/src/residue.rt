@@ -1,6 +1,6 @@
 // Residues modulo an odd q, and their signed forms.
-ghost use Rattle.std.specs.Prelude.{◌≡◌};
-ghost use Rattle.ring.specs.Residues.{modulus_from, signed_answer, IsSignedForm};
+ghost use Rattle.std.specs.Prelude.{◌≡◌, ◌%◌, ◌<◌, pos, ◌+ℤ◌, ◌*ℤ◌};
+ghost use Rattle.ring.specs.Residues.{modulus_from, residue, signed_answer, IsSignedForm};
 
 use crate::fault::Fault;
 use crate::modulus::Modulus;
@@ -37,5 +37,30 @@ impl Modulus {
         } else {
             Ok(x as i32 - self.q as i32)
         }
+    }
+
+    // The residue of a signed number.
+    pub fn residue(self, x: i32) -> u32
+        ensures value { result ≡ residue self.q x }
+        ensures below { result < self.q }
+    {
+        x.rem_euclid(self.q as i32) as u32
+    }
+
+    // The residue of an integer that is not negative.
+    pub fn reduce(self, x: u32) -> u32
+        ensures value { result ≡ x % self.q }
+        ensures below { result < self.q }
+    {
+        x % self.q
+    }
+
+    // The residue of x + step e: what an error e makes of a residue x.
+    pub fn add_multiple(self, x: u32, step: u32, e: i32) -> u32
+        ensures value { result ≡ residue self.q (pos x +ℤ pos step *ℤ e) }
+        ensures below { result < self.q }
+    {
+        let sum = i64::from(x) + i64::from(step) * i64::from(e);
+        sum.rem_euclid(i64::from(self.q)) as u32
     }
 }

@@ -7,8 +7,9 @@ use crate::line::{Line, word_of};
 use crate::rewriting::{rewrite_answer, rewrite_confirmation, rewrite_offer};
 use message::{
     Answer, Confirmation, Fault, Kind, Offer, Section, read_answer, read_confirmation, read_offer,
+    signals_width, values_width,
 };
-use packing::{Width, signals_width, values_width};
+use packing::Width;
 use profile::Profile;
 use std::alloc::Global;
 use std::io;

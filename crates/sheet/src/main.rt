@@ -3,7 +3,8 @@
 #![tactic(auto)]
 
 use house::{House, NumberSet, S, T, W};
-use profile::{Numbers, Profile, answer_length, confirmation_length, key_length, offer_length};
+use message::{answer_length, confirmation_length, key_length, offer_length};
+use profile::{Numbers, Profile};
 use reconcile::{Ding, Okcn, Reconciler};
 use ring::Fault;
 use std::fmt::Display;

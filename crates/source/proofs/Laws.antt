@@ -1,18 +1,20 @@
 -- What holds of every derivation.
-use Rattle.std.proofs.Common.{◌≡◌, ℕ, zero, suc, ◌-◌, ◌/◌, ◌%◌, ◌^◌, ◌<◌, ◌≤◌, true, eqb, ltb, leb, List, ◌∷◌, ◌++◌, map, length, take, drop, Ok, filter, sym, refl, ap, ◌∙◌, subst, ap₂, ⊎_elim, arith}
+use Rattle.std.proofs.Common.{◌≡◌, ℕ, zero, suc, ◌-◌, ◌/◌, ◌%◌, ◌^◌, ◌<◌, ◌≤◌, true, eqb, ltb, leb, List, ◌∷◌, ◌++◌, map, length, take, drop, Ok, Err, Result, OnOk, filter, sym, refl, ap, ◌∙◌, subst, ap₂, ⊎_elim, arith}
 use native.Mathlib.Nat.{div-eq_of_lt, div-eq-sub-div}
-use Rattle.std.specs.Prelude.{All}
 use Rattle.std.proofs.lemmas.Nat.{le-div}
 use Rattle.std.proofs.lemmas.List.Elements.{All-take, All-weaker, filter_passes, filter-append}
 use Rattle.std.proofs.lemmas.List.{length-append, length-drop, length-take, length-take-le, map-append, take-append-le, drop-append-le}
-use Rattle.std.proofs.lemmas.Bool.{cases_lt, cond_both, eqb-true, eqb-false, leb-true, leb-false, ltb-true}
+use Rattle.std.proofs.lemmas.Bool.{cases_lt, cond-true, cond_both, eq-eqb, le-leb, eqb-true, eqb-false, leb-true, leb-false, ltb-true}
 use Rattle.keccak.specs.Sponge.{little_endian}
+use Rattle.ring.specs.Elements.{AllBelow, IsElement}
+use Rattle.ring.specs.Faults.{after}
+use Rattle.ring.specs.declared.fault.Fault.{Fault}
 use Rattle.source.specs.Derivation.{bits, bytes_for, groups, candidates, kept, derived, derive_answer}
 use Rattle.source.specs.Laws.{DeriveMeans}
 use Rattle.source.proofs.Groups.{groups_none, groups_more}
 use Rattle.source.proofs.Keeping.{bits_some}
 
-pub kept_below : (q : ℕ) (bytes : List ℕ) → All (λ x. x < q) (kept q bytes)
+pub kept_below : (q : ℕ) (bytes : List ℕ) → AllBelow q (kept q bytes)
 unfolding kept
 kept_below q bytes = All-weaker (λ x. ltb x q ≡ true) (λ x. x < q) (λ x t. ltb-true x q t) (kept q bytes) (filter_passes (λ x. ltb x q) (candidates q bytes))
 
@@ -31,6 +33,19 @@ derive_means n q bytes places =
     ))
     (λ few. (fit, refl, leb-false _ _ few)))
     (λ other. (eqb-false _ _ other, refl))
+
+-- what an answer that is the defined one says
+pub answer_means : (n q : ℕ) (bytes : List ℕ) (places : ℕ) (answer : Result (Unit {0}) Fault) → answer ≡ derive_answer n q bytes places → DeriveMeans n q bytes places answer
+answer_means n q bytes places answer is = subst (DeriveMeans n q bytes places) (sym is) (derive_means n q bytes places)
+
+-- an accepted answer leaves an element
+pub accepted_is_element : (n q : ℕ) (bytes : List ℕ) (places : ℕ) (answer : Result (Unit {0}) Fault) (old new : List ℕ) → answer ≡ derive_answer n q bytes places → new ≡ after answer (derived n q bytes) old → OnOk answer (IsElement n q new)
+accepted_is_element n q bytes places (Ok _) old new is written = subst (IsElement n q) (sym written) (answer_means n q bytes places (Ok _) is).1
+accepted_is_element n q bytes places (Err _) old new is written = tt
+
+pub enough_is_accepted : (n q : ℕ) (bytes : List ℕ) (places : ℕ) → places ≡ n → n ≤ length (kept q bytes) → derive_answer n q bytes places ≡ Ok tt
+enough_is_accepted n q bytes places fit enough =
+    cond-true _ _ _ (eq-eqb places n fit) ∙ cond-true _ _ _ (le-leb n (length (kept q bytes)) enough)
 
 -- ---- bytes after those that suffice
 

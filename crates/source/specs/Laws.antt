@@ -1,13 +1,10 @@
 -- What holds of every derivation.
-use Rattle.std.specs.Prelude.{◌≡◌, ◌≢◌, ℕ, ◌-◌, ◌<◌, List, [], ◌∷◌, ◌++◌, length, All, Ok, Err, Result}
+use Rattle.std.specs.Prelude.{◌≡◌, ◌≢◌, ℕ, ◌-◌, ◌<◌, ◌≤◌, Ok, Err, Result}
+use Rattle.std.specs.Prelude.{List, [], ◌∷◌, ◌++◌, length}
+use Rattle.ring.specs.Elements.{IsElement}
 use Rattle.ring.specs.declared.fault.Fault.{Fault}
 use Rattle.ring.specs.declared.fault.Fault.TheVariants.{WrongLength, OutOfRange, SumTooLarge, CoinOutOfRange, SourceSpent}
 use Rattle.source.specs.Derivation.{bits, bytes_for, kept, derived, derive_answer}
-
--- n residues modulo q
-pub record IsElement (n q : ℕ) (xs : List ℕ) : Type 0 where
-  pub long : length xs ≡ n
-  pub below : All (λ x. x < q) xs
 
 -- what each answer says: that there is an element, or why there is none
 abbrev pub DeriveMeans : (n q : ℕ) (bytes : List ℕ) (places : ℕ) → Result (Unit {0}) Fault → Type 0
@@ -26,6 +23,9 @@ pub record Groups (q b c : ℕ) : Type 0 where
 pub record DerivationLaws : Type 0 where
   pub means : (n q : ℕ) (bytes : List ℕ) (places : ℕ) →
       DeriveMeans n q bytes places (derive_answer n q bytes places)
+  -- an output of n places, and a list of bytes that gives n numbers or more, are accepted
+  pub accepts : (n q : ℕ) (bytes : List ℕ) (places : ℕ) → places ≡ n → n ≤ length (kept q bytes) →
+      derive_answer n q bytes places ≡ Ok tt
   -- bytes after those that suffice change nothing
   pub stable : (n q : ℕ) (bytes more : List ℕ) (places : ℕ) → 1 < q →
       derive_answer n q bytes places ≡ Ok tt → derived n q (bytes ++ more) ≡ derived n q bytes

@@ -1,7 +1,10 @@
 // The ring element that a seed and a byte source give.
-ghost use Rattle.std.specs.Prelude.{◌≡◌, length};
+ghost use Rattle.std.specs.Prelude.{◌≡◌, length, OnOk, Err};
+ghost use Rattle.ring.specs.Elements.{IsElement};
 ghost use Rattle.ring.specs.Faults.{after};
+ghost use Rattle.ring.specs.declared.fault.Fault.TheVariants.{WrongLength};
 ghost use Rattle.source.specs.Derivation.{derived, derive_answer};
+ghost use Rattle.source.specs.Laws.{DeriveMeans};
 
 use crate::sampler::Sampler;
 use crate::source::ByteSource;
@@ -12,7 +15,7 @@ use ring::Fault;
 const ROOM: usize = 1024;
 
 // The element of the seed.
-#[tactic(auto, using(profile::proofs::Ranges::n_most))]
+#[tactic(auto, using(profile::proofs::Ranges::n_most, crate::proofs::Laws::answer_means))]
 pub fn derive<P: Profile, S: ByteSource>(
     source: &mut S,
     seed: &[u8; 16],
@@ -20,9 +23,13 @@ pub fn derive<P: Profile, S: ByteSource>(
 ) -> Result<(), Fault>
     ensures answer { let bytes = S.meaning source.old seed.now in
         result ≡ derive_answer P.NUMBERS.n P.NUMBERS.q bytes (length output.old) }
-    ensures element { let bytes = S.meaning source.old seed.now in
+    ensures writes { let bytes = S.meaning source.old seed.now in
         output.new ≡ after result (derived P.NUMBERS.n P.NUMBERS.q bytes) output.old }
+    ensures answer_means { let bytes = S.meaning source.old seed.now in
+        DeriveMeans P.NUMBERS.n P.NUMBERS.q bytes (length output.old) result }
+    ensures element { OnOk result (IsElement P.NUMBERS.n P.NUMBERS.q output.new) }
     ensures means { S.meaning source.new ≡ S.meaning source.old }
+    ensures untouched { result ≡ Err (WrongLength 4) → source.new ≡ source.old }
 {
     if output.len() != P::NUMBERS.n {
         return Err(Fault::WrongLength(4));

@@ -3,7 +3,7 @@ ghost use Rattle.std.specs.Prelude.{◌≡◌, ℕ, List};
 ghost use Rattle.source.specs.Sources.{Gives};
 
 // For each seed of 16 bytes a source means a finite list of bytes, which never changes. It reads one list at a time.
-pub trait ByteSource {
+pub trait ByteSource: Drop {
     // the bytes that each seed means
     ghost meaning: { Self → List ℕ → List ℕ };
 

@@ -1,8 +1,9 @@
 // What is proved of every derivation. A theorem stands on a function's contract, where the check asks for its proof.
 ghost use Rattle.source.specs.Laws.{DerivationLaws, DerivationValues};
 
-// An element has n numbers, each below q, and more bytes than suffice change nothing. A refusal says why there is no element.
-#[tactic(auto, using(crate::proofs::Laws::derive_means, crate::proofs::Laws::derived_stable))]
+// An element has n numbers, each below q, and more bytes than suffice change nothing. A refusal says why there is no
+// element, and what suffices is not refused.
+#[tactic(auto, using(crate::proofs::Laws::derive_means, crate::proofs::Laws::enough_is_accepted, crate::proofs::Laws::derived_stable))]
 pub fn derivation_laws()
     ensures { DerivationLaws }
 {}

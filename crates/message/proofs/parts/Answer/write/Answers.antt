@@ -1,5 +1,5 @@
-use Rattle.std.proofs.Common.{sym, ◌≡◌, ◌∙◌, ap, arith, rules}
-use Rattle.profile.specs.Lengths.{packed_length}
+use Rattle.std.proofs.Common.{sym, ◌≡◌, ◌∙◌, length, ap, arith, rules}
+use Rattle.packing.specs.Lengths.{packed_length}
 use Rattle.profile.specs.declared.numbers.Numbers.{Numbers}
 use Rattle.packing.specs.Packing.{packed, AllFit}
 use Rattle.packing.proofs.Eights.{length-packed}
@@ -8,6 +8,8 @@ use Rattle.message.specs.Reading.{reading}
 use Rattle.message.proofs.ReadBack.{reads_back}
 use Rattle.message.specs.declared.kind.Kind.TheVariants.{Answer}
 use Rattle.message.specs.Sections.{written_at}
+use Rattle.message.specs.Parts.{answer_of}
+use Rattle.message.proofs.WritingLaws.{written_means}
 use Rattle.message.proofs.Written.{three_written}
 use Rattle.message.proofs.parts.Answer.write.Goals as goal
 
@@ -44,3 +46,11 @@ returns-clause-reads_back g c =
     ap (reading k Answer) (returns-clause-writes g c)
     ∙ reads_back k g.met.P.Profile.lawful.in_range (answer c.args.self.round c.args.self.values.now c.args.self.signals.now)
     (c.head.ensures.round, record { count = c.if-values-n.false ∙ degree; fit = values_fit }, record { count = c.if-signals-n.false ∙ degree; fit = signals_fit })
+
+pub returns-in_err-values-clause-means : goal.returns-in_err-values-clause-means
+returns-in_err-values-clause-means g c =
+    written_means g.P.Profile.NUMBERS (answer_of c.args.self) (length c.args.out.now) c.from_residual.result (search rules)
+
+pub returns-in_err-signals-clause-means : goal.returns-in_err-signals-clause-means
+returns-in_err-signals-clause-means g c =
+    written_means g.P.Profile.NUMBERS (answer_of c.args.self) (length c.args.out.now) c.from_residual-in_err-signals.result (search rules)

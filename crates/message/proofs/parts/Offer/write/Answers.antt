@@ -1,5 +1,5 @@
 use Rattle.std.proofs.Common.{sym, ◌≡◌, ◌∙◌, length, ap, arith, rules}
-use Rattle.profile.specs.Lengths.{packed_length}
+use Rattle.packing.specs.Lengths.{packed_length}
 use Rattle.profile.specs.declared.numbers.Numbers.{Numbers}
 use Rattle.packing.specs.Packing.{packed, AllFit}
 use Rattle.packing.proofs.Eights.{length-packed}
@@ -8,6 +8,8 @@ use Rattle.message.specs.Reading.{reading}
 use Rattle.message.proofs.ReadBack.{reads_back}
 use Rattle.message.specs.declared.kind.Kind.TheVariants.{Offer}
 use Rattle.message.specs.Sections.{written_at}
+use Rattle.message.specs.Parts.{offer_of}
+use Rattle.message.proofs.WritingLaws.{written_means}
 use Rattle.message.proofs.Written.{three_written}
 use Rattle.message.proofs.parts.Offer.write.Goals as goal
 
@@ -39,3 +41,7 @@ returns-clause-reads_back g c =
     ap (reading k Offer) (returns-clause-writes g c)
     ∙ reads_back k g.met.P.Profile.lawful.in_range (offer c.args.self.round c.args.self.seed.now c.args.self.values.now)
     (c.head.ensures.round, record { long = omega arith; bytes = c.write_section-at-2.ensures.bytes }, record { count = count; fit = fit })
+
+pub returns-in_err-values-clause-means : goal.returns-in_err-values-clause-means
+returns-in_err-values-clause-means g c =
+    written_means g.P.Profile.NUMBERS (offer_of c.args.self) (length c.args.out.now) c.from_residual.result (search rules)

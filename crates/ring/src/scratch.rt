@@ -1,10 +1,10 @@
 // Scratch words that are zero again once they are let go.
 ghost use Rattle.std.specs.Prelude.{◌≡◌};
-ghost use Rattle.multiplier.specs.Scratch.{zeroed};
+ghost use Rattle.ring.specs.Scratch.{zeroed};
 
 // Holds all words of a caller's scratch while they are in use.
-pub(crate) struct ScratchGuard<'a> {
-    pub(crate) words: &'a mut [u32],
+pub struct ScratchGuard<'a> {
+    pub words: &'a mut [u32],
 }
 
 impl Drop for ScratchGuard<'_> {

@@ -1,7 +1,7 @@
 // The widths of what a profile packs.
 ghost use Rattle.std.specs.Prelude.{◌≡◌};
 
-use crate::width::Width;
+use packing::Width;
 use profile::Profile;
 
 // That of rounded values.
@@ -16,4 +16,11 @@ pub fn signals_width<P: Profile>() -> Width
     ensures { result.bits ≡ P.NUMBERS.signal_width }
 {
     Width::new(P::NUMBERS.signal_width).unwrap()
+}
+
+// That of key bits, in every profile.
+pub fn key_width() -> Width
+    ensures { result.bits ≡ 1 }
+{
+    Width::new(1).unwrap()
 }

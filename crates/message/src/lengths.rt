@@ -1,8 +1,11 @@
 // The lengths in bytes of a profile's messages and key.
 ghost use Rattle.std.specs.Prelude.{◌≡◌, ◌+◌, ◌≤◌};
-ghost use Rattle.profile.specs.Lengths.{packed_length, values_length, signals_length, section_length, offer_length, answer_length, confirmation_length, key_length};
+ghost use Rattle.packing.specs.Lengths.{packed_length};
+ghost use Rattle.message.specs.Lengths.{values_length, signals_length, section_length, offer_length, answer_length, confirmation_length, key_length};
 
-use crate::profile::Profile;
+use crate::widths::{key_width, signals_width, values_width};
+use packing::Width;
+use profile::Profile;
 
 // The bytes of a message's head.
 pub const HEAD_LENGTH: usize = 7;
@@ -10,13 +13,12 @@ pub const HEAD_LENGTH: usize = 7;
 // The bytes of a seed.
 pub const SEED_LENGTH: usize = 16;
 
-// What n numbers of `width` bits take, packed one after another.
-fn packed<P: Profile>(width: u32) -> usize
-    requires { width ≤ 16 }
-    ensures value { result ≡ packed_length P.NUMBERS.n width }
+// What n numbers of a width take, packed one after another.
+fn packed<P: Profile>(width: Width) -> usize
+    ensures value { result ≡ packed_length P.NUMBERS.n width.bits }
     ensures bound { result ≤ 2048 }
 {
-    (P::NUMBERS.n * width as usize).div_ceil(8)
+    width.packed_length(P::NUMBERS.n) as usize
 }
 
 // A section has its count of bytes before it, in two bytes.
@@ -32,7 +34,7 @@ pub fn values_length<P: Profile>() -> usize
     ensures value { result ≡ values_length P.NUMBERS }
     ensures bound { result ≤ 2048 }
 {
-    packed::<P>(P::NUMBERS.w)
+    packed::<P>(values_width::<P>())
 }
 
 // Its signals.
@@ -40,7 +42,7 @@ pub fn signals_length<P: Profile>() -> usize
     ensures value { result ≡ signals_length P.NUMBERS }
     ensures bound { result ≤ 2048 }
 {
-    packed::<P>(P::NUMBERS.signal_width)
+    packed::<P>(signals_width::<P>())
 }
 
 // Head, seed and rounded values.
@@ -68,5 +70,5 @@ pub fn confirmation_length() -> usize
 pub fn key_length<P: Profile>() -> usize
     ensures { result ≡ key_length P.NUMBERS }
 {
-    packed::<P>(1)
+    packed::<P>(key_width())
 }

@@ -1,10 +1,7 @@
 -- The lengths in bytes of messages and keys.
-use Rattle.std.specs.Prelude.{ℕ, ◌+◌, ◌*◌, ◌/◌}
+use Rattle.std.specs.Prelude.{ℕ, ◌+◌}
+use Rattle.packing.specs.Lengths.{packed_length}
 use Rattle.profile.specs.declared.numbers.Numbers.{Numbers}
-
--- so many numbers of so many bits, one after another, and zero bits up to a whole byte
-abbrev pub packed_length : ℕ → ℕ → ℕ
-packed_length many width = (many * width + 7) / 8
 
 -- n rounded values, and n signals
 abbrev pub values_length : Numbers → ℕ

@@ -1,0 +1,44 @@
+-- What the answers of packing and unpacking mean, and that what is right is accepted.
+use Rattle.std.proofs.Common.{ℕ, ◌^◌, eqb, leb, List, length, refl, ◌∙◌}
+use Rattle.std.proofs.lemmas.Bool.{cond-true, cond_both, le-leb, leb-true, leb-false, eq-eqb, eqb-true, eqb-false}
+use Rattle.ring.proofs.Elements.{all_below, first_not_below, front_reaches}
+use Rattle.packing.specs.Lengths.{packed_length}
+use Rattle.packing.specs.Packing.{front_fitting, pack_answer, pack_numbers_answer, unpack_answer}
+use Rattle.packing.specs.Refusals.{PackMeans, PackNumbersMeans, PackingRefusals, PackingRefusesTheFirst, UnpackMeans}
+
+module _ (w : ℕ) where
+  pub pack_means : (xs : List ℕ) (room : ℕ) → PackMeans w xs room (pack_answer w xs room)
+  pack_means xs room =
+      cond_both (eqb room (packed_length (length xs) w)) _ _ (PackMeans w xs room)
+      (λ same. eqb-true _ _ same)
+      (λ other. (eqb-false _ _ other, refl))
+
+  pub pack_numbers_means : (xs : List ℕ) (room : ℕ) → PackNumbersMeans w xs room (pack_numbers_answer w xs room)
+  pack_numbers_means xs room =
+      cond_both (eqb room (packed_length (length xs) w)) _ _ (PackNumbersMeans w xs room)
+      (λ same.
+      cond_both (leb (length xs) (front_fitting w xs)) _ _ (PackNumbersMeans w xs room)
+      (λ whole. (eqb-true _ _ same, all_below (2 ^ w) xs (leb-true _ _ whole)))
+      (λ stops. (eqb-true _ _ same, first_not_below (2 ^ w) xs (leb-false _ _ stops))))
+      (λ other. (eqb-false _ _ other, refl))
+
+  pub unpack_means : (bytes : List ℕ) (many : ℕ) → UnpackMeans w bytes many (unpack_answer w bytes many)
+  unpack_means bytes many =
+      cond_both (eqb (length bytes) (packed_length many w)) _ _ (UnpackMeans w bytes many)
+      (λ same. eqb-true _ _ same)
+      (λ other. (eqb-false _ _ other, refl))
+
+  refusals : PackingRefusals w
+  refusals = record {
+    pack_means = pack_means;
+    pack_numbers_means = pack_numbers_means;
+    unpack_means = unpack_means;
+    packs = λ xs room right. cond-true _ _ _ (eq-eqb room (packed_length (length xs) w) right);
+    packs_numbers = λ xs room right fit.
+        cond-true _ _ _ (eq-eqb room (packed_length (length xs) w) right)
+        ∙ cond-true _ _ _ (le-leb (length xs) (front_fitting w xs) (front_reaches (2 ^ w) xs fit));
+    unpacks = λ bytes many long. cond-true _ _ _ (eq-eqb (length bytes) (packed_length many w) long);
+  }
+
+pub packing_refuses_the_first : PackingRefusesTheFirst
+packing_refuses_the_first w = refusals w

@@ -1,0 +1,75 @@
+-- What the front of a list says: one that is the whole list, and one that ends before it.
+use Rattle.std.proofs.Common.{inl, inr, ⊎_elim, ◌⊎◌, ◌≡◌, ℕ, ◌<◌, ◌≤◌, ltb, Bool, true, List, length, get_or, take, length-take, arith}
+use Rattle.std.specs.Prelude.{All}
+use Rattle.std.specs.List.{prefix_len}
+use Rattle.std.proofs.lemmas.List.Elements.{All-from_get_or}
+use Rattle.std.proofs.lemmas.List.{get_or-take}
+use Rattle.std.proofs.lemmas.List.Sums.{prefix_len_passes, prefix_len_stops, prefix_len-le-length}
+use Rattle.std.proofs.lemmas.Bool.{ltb-true, ltb-false, cases_eq, cases_lt}
+use Rattle.ring.specs.Elements.{AllBelow, FirstNotBelow, IsFrontBelow, front_below}
+
+-- ---- elements that pass a test, which says P of them
+
+module _ {X : Type 0} (p : X → Bool) (P : X → Type 0) (says : (x : X) → p x ≡ true → P x) (xs : List X) (d : X) where
+  pub whole_passes : length xs ≤ prefix_len p xs → All P xs
+  whole_passes h = All-from_get_or P xs d (λ k lt. says _ (prefix_len_passes p xs k d (omega arith)))
+
+  pub front_passes : prefix_len p xs ≤ length xs → All P (take (prefix_len p xs) xs)
+  front_passes h =
+      let i = prefix_len p xs in
+      All-from_get_or P (take i xs) d (λ k lt.
+      let inside : k < i = omega (arith, length-take i xs) in
+      rw (get_or-take i xs k d inside) (says _ (prefix_len_passes p xs k d inside)))
+
+-- ---- numbers below a bound
+
+pub all_below : (bound : ℕ) (xs : List ℕ) → length xs ≤ front_below bound xs → AllBelow bound xs
+all_below bound xs h = whole_passes (λ x. ltb x bound) (λ x. x < bound) (λ x t. ltb-true _ _ t) xs 0 h
+
+pub first_not_below : (bound : ℕ) (xs : List ℕ) → front_below bound xs < length xs → FirstNotBelow bound xs (front_below bound xs)
+first_not_below bound xs h = record {
+  inside = h;
+  before = front_passes (λ x. ltb x bound) (λ x. x < bound) (λ x t. ltb-true _ _ t) xs 0 (omega arith);
+  here = ltb-false _ _ (prefix_len_stops (λ x. ltb x bound) xs 0 h);
+}
+
+-- a front is the whole list, or shorter
+pub whole_or_first : {X : Type 0} (p : X → Bool) (xs : List X) → (prefix_len p xs ≡ length xs) ⊎ (prefix_len p xs < length xs)
+whole_or_first p xs =
+    let most = prefix_len-le-length p xs in
+    ⊎_elim (λ e. inl e) (λ other. inr (omega arith)) (cases_eq (prefix_len p xs) (length xs))
+
+pub is_front_below : (bound : ℕ) (xs : List ℕ) → IsFrontBelow bound xs (front_below bound xs)
+is_front_below bound xs =
+    ⊎_elim
+    (λ whole. inl (whole, all_below bound xs (omega arith)))
+    (λ shorter. inr (first_not_below bound xs shorter))
+    (whole_or_first (λ x. ltb x bound) xs)
+
+-- ---- and back: how many come before the first that is not below the bound
+
+pub front_reaches : (bound : ℕ) (xs : List ℕ) → AllBelow bound xs → length xs ≤ front_below bound xs
+front_reaches bound xs below =
+    ⊎_elim
+    (λ (stops : front_below bound xs < length xs).
+    let stop = ltb-false _ _ (prefix_len_stops (λ x. ltb x bound) xs 0 stops) in
+    absurd (omega (arith, stop, below (front_below bound xs) 0 stops)))
+    (λ (no : length xs ≤ front_below bound xs). no)
+    (cases_lt (front_below bound xs) (length xs))
+
+module _ (bound : ℕ) (xs : List ℕ) (i : ℕ) (first : FirstNotBelow bound xs i) where
+  below_before : (k : ℕ) → k < i → get_or xs k 0 < bound
+  below_before k h = rw (← get_or-take i xs k 0 h) (first.before k 0 (omega (arith, length-take i xs, first.inside)))
+
+  pub front_stops : front_below bound xs ≡ i
+  front_stops =
+      ⊎_elim
+      (λ (sooner : front_below bound xs < i).
+      let stop = ltb-false _ _ (prefix_len_stops (λ x. ltb x bound) xs 0 (omega (arith, first.inside))) in
+      absurd (omega (arith, stop, below_before (front_below bound xs) sooner)))
+      (λ (rest : i ≤ front_below bound xs).
+      ⊎_elim
+      (λ (later : i < front_below bound xs). absurd (omega (arith, ltb-true _ _ (prefix_len_passes (λ x. ltb x bound) xs i 0 later), first.here)))
+      (λ (no : front_below bound xs ≤ i). omega arith)
+      (cases_lt i (front_below bound xs)))
+      (cases_lt (front_below bound xs) i)
