@@ -1,5 +1,5 @@
 -- What the exported functions on packed numbers answer and leave.
-use Rattle.std.specs.Prelude.{ℕ, if◌then◌else◌, ◌&&◌, ◌==◌, List, length, nat_le, Ok, Result}
+use Rattle.std.specs.Prelude.{ℕ, if◌then◌else◌, ◌&&◌, List, length, nat_le}
 use Rattle.ring.specs.Faults.{after}
 use Rattle.packing.specs.Packing.{pack_numbers_answer, packed, unpacked, unpack_answer}
 use Rattle.exports.specs.Codes.{done_code, no_call}
