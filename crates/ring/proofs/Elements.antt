@@ -1,11 +1,11 @@
 -- What the front of a list says: one that is the whole list, and one that ends before it.
-use Rattle.std.proofs.Common.{inl, inr, ⊎_elim, ◌⊎◌, ◌≡◌, ℕ, ◌<◌, ◌≤◌, ltb, Bool, true, List, length, get_or, take, length-take, arith}
+use Rattle.std.proofs.Common.{inl, inr, ⊎_elim, ◌⊎◌, ◌≡◌, ℕ, ◌<◌, ◌≤◌, leb, ltb, Bool, true, false, List, length, get_or, take, length-take, arith}
 use Rattle.std.specs.Prelude.{All}
 use Rattle.std.specs.List.{prefix_len}
 use Rattle.std.proofs.lemmas.List.Elements.{All-from_get_or}
 use Rattle.std.proofs.lemmas.List.{get_or-take}
 use Rattle.std.proofs.lemmas.List.Sums.{prefix_len_passes, prefix_len_stops, prefix_len-le-length}
-use Rattle.std.proofs.lemmas.Bool.{ltb-true, ltb-false, cases_eq, cases_lt}
+use Rattle.std.proofs.lemmas.Bool.{ltb-true, ltb-false, lt-ltb, le-leb, cases_eq, cases_lt}
 use Rattle.ring.specs.Elements.{AllBelow, FirstNotBelow, IsFrontBelow, front_below}
 
 -- ---- elements that pass a test, which says P of them
@@ -46,16 +46,25 @@ is_front_below bound xs =
     (λ shorter. inr (first_not_below bound xs shorter))
     (whole_or_first (λ x. ltb x bound) xs)
 
--- ---- and back: how many come before the first that is not below the bound
+-- ---- and back: how many come before the first that does not pass, or is not below the bound
+
+-- where all pass, none stops the front
+pub whole_front : {X : Type 0} (p : X → Bool) (xs : List X) (d : X) → ((k : ℕ) → k < length xs → p (get_or xs k d) ≡ true) → length xs ≤ prefix_len p xs
+whole_front p xs d passes =
+    ⊎_elim
+    (λ (stops : prefix_len p xs < length xs).
+    let stop : p (get_or xs (prefix_len p xs) d) ≡ false = prefix_len_stops p xs d stops in
+    let go : p (get_or xs (prefix_len p xs) d) ≡ true = passes (prefix_len p xs) stops in
+    cc)
+    (λ (no : length xs ≤ prefix_len p xs). no)
+    (cases_lt (prefix_len p xs) (length xs))
 
 pub front_reaches : (bound : ℕ) (xs : List ℕ) → AllBelow bound xs → length xs ≤ front_below bound xs
-front_reaches bound xs below =
-    ⊎_elim
-    (λ (stops : front_below bound xs < length xs).
-    let stop = ltb-false _ _ (prefix_len_stops (λ x. ltb x bound) xs 0 stops) in
-    absurd (omega (arith, stop, below (front_below bound xs) 0 stops)))
-    (λ (no : length xs ≤ front_below bound xs). no)
-    (cases_lt (front_below bound xs) (length xs))
+front_reaches bound xs below = whole_front (λ x. ltb x bound) xs 0 (λ k h. lt-ltb _ _ (below k 0 h))
+
+-- so the test that n numbers are below the bound is passed
+pub front_passed : (bound n : ℕ) (xs : List ℕ) → length xs ≡ n → AllBelow bound xs → leb n (front_below bound xs) ≡ true
+front_passed bound n xs long below = le-leb n (front_below bound xs) (omega (arith, front_reaches bound xs below))
 
 module _ (bound : ℕ) (xs : List ℕ) (i : ℕ) (first : FirstNotBelow bound xs i) where
   below_before : (k : ℕ) → k < i → get_or xs k 0 < bound

@@ -45,7 +45,17 @@ abbrev pub passed_up : {X F G : Type 0} → (F → G) → Result X F → Result 
 passed_up into (Ok x) = Ok x
 passed_up into (Err fault) = Err (into fault)
 
+-- the answer with what is told of an accepted value in its place
+abbrev pub told : {X Y F : Type 0} → (X → Y) → Result X F → Result Y F
+told tell (Ok x) = Ok (tell x)
+told tell (Err fault) = Err fault
+
 -- what is there after an answer: the new value if it accepts, the old one if it refuses
 abbrev pub after : {X A F : Type 0} → Result A F → X → X → X
 after (Ok _) new old = new
 after (Err _) new old = old
+
+-- the same where the new value is a part of what the acceptance gives
+abbrev pub after_part : {X A F : Type 0} → (A → X) → Result A F → X → X
+after_part part (Ok accepted) old = part accepted
+after_part part (Err _) old = old

@@ -3,7 +3,7 @@ use Rattle.std.specs.Prelude.{◌≡◌, ℕ, ◌-◌, ◌/◌, ◌%◌, ◌^◌
 use Rattle.std.specs.Int.{int_rem_euclid}
 use Rattle.ring.specs.Faults.{checked}
 use Rattle.ring.specs.declared.fault.Fault.{Fault}
-use Rattle.ring.specs.declared.fault.Fault.TheVariants.{OutOfRange}
+use Rattle.ring.specs.declared.fault.Fault.TheVariants.{WrongLength, OutOfRange, SumTooLarge, CoinOutOfRange, SourceSpent}
 use Rattle.ring.specs.declared.modulus.Modulus.{Modulus}
 
 -- the residue of an integer modulo q, in 0 .. q - 1
@@ -37,7 +37,11 @@ modulus_from q None = IsModulus q → ⊥
 abbrev pub signed_answer : ℕ → ℕ → Result ℤ Fault
 signed_answer q x = checked (nat_lt x q) (OutOfRange 0) (Ok (signed q x))
 
--- what is answered has x for its residue, and no more than (q-1)/2 for its size
+-- what each answer says: that it has x for its residue, and no more than (q-1)/2 for its size, or that x is no residue
 abbrev pub IsSignedForm : ℕ → ℕ → Result ℤ Fault → Type 0
-IsSignedForm q x (Ok s) = (residue q s ≡ x) × (unsigned_abs s ≤ (q - 1) / 2)
-IsSignedForm q x (Err fault) = q ≤ x
+IsSignedForm q x (Ok s) = (x < q) × (residue q s ≡ x) × (unsigned_abs s ≤ (q - 1) / 2)
+IsSignedForm q x (Err (OutOfRange place)) = (q ≤ x) × (place ≡ 0)
+IsSignedForm q x (Err (WrongLength place)) = ⊥
+IsSignedForm q x (Err (SumTooLarge place)) = ⊥
+IsSignedForm q x (Err (CoinOutOfRange place)) = ⊥
+IsSignedForm q x (Err (SourceSpent place)) = ⊥

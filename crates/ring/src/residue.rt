@@ -1,5 +1,5 @@
 // Residues modulo an odd q, and their signed forms.
-ghost use Rattle.std.specs.Prelude.{◌≡◌, ◌%◌, ◌<◌, pos, ◌+ℤ◌, ◌*ℤ◌};
+ghost use Rattle.std.specs.Prelude.{◌≡◌, ◌<◌, pos, ◌+ℤ◌, ◌*ℤ◌};
 ghost use Rattle.ring.specs.Residues.{modulus_from, residue, signed_answer, IsSignedForm};
 
 use crate::fault::Fault;
@@ -49,7 +49,7 @@ impl Modulus {
 
     // The residue of an integer that is not negative.
     pub fn reduce(self, x: u32) -> u32
-        ensures value { result ≡ x % self.q }
+        ensures value { result ≡ residue self.q (pos x) }
         ensures below { result < self.q }
     {
         x % self.q
