@@ -4,11 +4,13 @@
 mod bounds;
 mod errors_and_coins;
 mod holding;
+mod memory;
 mod moduli;
 mod numbers;
 mod place;
 mod profile;
 mod secret;
+mod secret_guard;
 mod sizes;
 
 pub use bounds::{Bounds, SecretBounds};
@@ -18,4 +20,5 @@ pub use numbers::Numbers;
 pub use place::Place;
 pub use profile::Profile;
 pub use secret::{SecretPlace, fill_refuses_the_first};
+pub use secret_guard::SecretGuard;
 pub use sizes::{front_summing, front_within};
