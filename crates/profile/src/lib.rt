@@ -10,6 +10,7 @@ mod place;
 mod profile;
 mod secret;
 mod sizes;
+mod theorems;
 
 pub use bounds::{Bounds, SecretBounds};
 pub use errors_and_coins::{coins_below, errors_within};
@@ -19,3 +20,4 @@ pub use place::Place;
 pub use profile::Profile;
 pub use secret::{SecretPlace, fill_refuses_the_first};
 pub use sizes::{front_summing, front_within};
+pub use theorems::functions_refuse_the_first;
