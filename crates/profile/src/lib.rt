@@ -12,6 +12,7 @@ mod profile;
 mod secret;
 mod secret_guard;
 mod sizes;
+mod theorems;
 
 pub use bounds::{Bounds, SecretBounds};
 pub use errors_and_coins::{coins_below, errors_within};
@@ -22,3 +23,4 @@ pub use profile::Profile;
 pub use secret::{SecretPlace, fill_refuses_the_first};
 pub use secret_guard::SecretGuard;
 pub use sizes::{front_summing, front_within};
+pub use theorems::functions_refuse_the_first;
