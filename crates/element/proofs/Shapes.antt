@@ -1,9 +1,9 @@
 -- The length of a product, and the range of its numbers.
 use Rattle.std.proofs.Common.{◌≡◌, ℕ, ◌<◌, List, map, length, get_or, ℤ, pos, ◌*ℤ◌, sym, refl, ap, ◌∙◌, subst, arith}
-use Rattle.std.specs.Prelude.{All}
 use Rattle.std.proofs.lemmas.List.{length-map, get_or-map}
 use Rattle.std.proofs.lemmas.List.FromFn.{length-map-range_with_len, get_or-map-range_with_len}
 use Rattle.std.proofs.lemmas.List.Elements.{All-from_get_or}
+use Rattle.ring.specs.Elements.{IsElement}
 use Rattle.ring.specs.Residues.{residue}
 use Rattle.ring.proofs.Residues.{residue_below}
 use Rattle.element.specs.Products.{sum_to, at, shifted, coefficient, integer_product, product}
@@ -36,10 +36,12 @@ get_or_product n q a b k d h =
     get_or-map (residue q) (integer_product n u v) k (pos 0) d (subst (λ l. k < l) (sym (length_integer_product n u v)) h)
     ∙ ap (residue q) (at_integer_product n u v k h)
 
--- each number of a product is below q
-pub product_below : (n q : ℕ) (a b : List ℕ) → 0 < q → All (λ x. x < q) (product n q a b)
-product_below n q a b some =
-    All-from_get_or (λ x. x < q) (product n q a b) 0
-    (λ k h.
-    subst (λ x. x < q) (sym (get_or_product n q a b k 0 (subst (λ l. k < l) (length_product n q a b) h)))
-    (residue_below q (coefficient n (at (map pos a)) (at (map pos b)) k) some))
+-- a product is an element: it has n numbers, and each is a residue
+pub product_is_element : (n q : ℕ) (a b : List ℕ) → 0 < q → IsElement n q (product n q a b)
+product_is_element n q a b some = record {
+  long = length_product n q a b;
+  below = All-from_get_or (λ x. x < q) (product n q a b) 0
+      (λ k h.
+      subst (λ x. x < q) (sym (get_or_product n q a b k 0 (subst (λ l. k < l) (length_product n q a b) h)))
+      (residue_below q (coefficient n (at (map pos a)) (at (map pos b)) k) some));
+}

@@ -1,6 +1,7 @@
 -- The laws of the product of integer lists and of elements, for every n and modulus q.
-use Rattle.std.specs.Prelude.{◌≡◌, ℕ, ◌+◌, ◌*◌, ◌<◌, ◌≤◌, List, [], ◌∷◌, ◌++◌, map, length, ℤ, pos, ◌+ℤ◌, ◌*ℤ◌, neg_ℤ, sum_by, unsigned_abs, All}
+use Rattle.std.specs.Prelude.{◌≡◌, ℕ, ◌+◌, ◌*◌, ◌<◌, ◌≤◌, List, [], ◌∷◌, ◌++◌, map, length, ℤ, pos, ◌+ℤ◌, ◌*ℤ◌, neg_ℤ, sum_by, unsigned_abs}
 use Rattle.std.specs.List.{range_with_len}
+use Rattle.ring.specs.Elements.{IsElement}
 use Rattle.ring.specs.Residues.{residue}
 use Rattle.element.specs.Products.{at, coefficient, integer_product, product}
 
@@ -53,6 +54,6 @@ pub record ProductLaws : Type 0 where
   pub element_sum_on_the_right : (n q : ℕ) (u v w : List ℤ) → 0 < q
       → product n q (residues q u) (residues q (added n v w))
       ≡ residues q (added n (integer_product n u v) (integer_product n u w))
-  -- the product is an element: n numbers below q
+  -- the product has n numbers, and is an element where there are residues
   pub length_of_product : (n q : ℕ) (a b : List ℕ) → length (product n q a b) ≡ n
-  pub numbers_below_q : (n q : ℕ) (a b : List ℕ) → 0 < q → All (λ x. x < q) (product n q a b)
+  pub is_element : (n q : ℕ) (a b : List ℕ) → 0 < q → IsElement n q (product n q a b)

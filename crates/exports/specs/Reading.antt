@@ -1,6 +1,6 @@
 -- What the exported functions that read messages answer and leave.
 use Rattle.std.specs.Prelude.{ℕ, ◌==◌, List, [], length, Ok, Err, Result}
-use Rattle.ring.specs.Faults.{checked, followed, passed_up}
+use Rattle.ring.specs.Faults.{after_part, checked, followed, passed_up, told}
 use Rattle.ring.specs.declared.fault.Fault.{Fault}
 use Rattle.ring.specs.declared.fault.Fault.TheVariants.{WrongLength}
 use Rattle.profile.specs.declared.numbers.Numbers.{Numbers}
@@ -44,8 +44,7 @@ confirmation_read k message = message_read k kinds.Confirmation message
 -- ---- what is told and left of them
 
 abbrev pub round_told : Result Message Refusal → Result ℕ Refusal
-round_told (Ok message) = Ok (round_of message)
-round_told (Err refusal) = Err refusal
+round_told = told round_of
 
 abbrev pub seed_of : Message → List ℕ
 seed_of (offer round seed values) = seed
@@ -62,11 +61,6 @@ signals_of (offer round seed values) = []
 signals_of (answer round values signals) = signals
 signals_of (confirmation round) = []
 
--- what the buffer for a part holds then: where the message is refused, what it held
-abbrev pub part_after : (Message → List ℕ) → Result Message Refusal → List ℕ → List ℕ
-part_after part (Ok message) buffer = part message
-part_after part (Err refusal) buffer = buffer
-
 -- ---- the same for the profile of an index
 
 abbrev pub read_offer_code : (profile : ℕ) → (message values : List ℕ) → ℕ
@@ -75,11 +69,11 @@ read_offer_code profile message values =
 
 abbrev pub read_offer_seed : (profile : ℕ) → (message seed values : List ℕ) → List ℕ
 read_offer_seed profile message seed values =
-    by_profile (λ k _. part_after seed_of (offer_read k message (length values)) seed) seed profile
+    by_profile (λ k _. after_part seed_of (offer_read k message (length values)) seed) seed profile
 
 abbrev pub read_offer_values : (profile : ℕ) → (message values : List ℕ) → List ℕ
 read_offer_values profile message values =
-    by_profile (λ k _. part_after values_of (offer_read k message (length values)) values) values profile
+    by_profile (λ k _. after_part values_of (offer_read k message (length values)) values) values profile
 
 abbrev pub read_answer_code : (profile : ℕ) → (message values signals : List ℕ) → ℕ
 read_answer_code profile message values signals =
@@ -87,11 +81,11 @@ read_answer_code profile message values signals =
 
 abbrev pub read_answer_values : (profile : ℕ) → (message values signals : List ℕ) → List ℕ
 read_answer_values profile message values signals =
-    by_profile (λ k _. part_after values_of (answer_read k message (length values) (length signals)) values) values profile
+    by_profile (λ k _. after_part values_of (answer_read k message (length values) (length signals)) values) values profile
 
 abbrev pub read_answer_signals : (profile : ℕ) → (message values signals : List ℕ) → List ℕ
 read_answer_signals profile message values signals =
-    by_profile (λ k _. part_after signals_of (answer_read k message (length values) (length signals)) signals) signals profile
+    by_profile (λ k _. after_part signals_of (answer_read k message (length values) (length signals)) signals) signals profile
 
 abbrev pub read_confirmation_code : (profile : ℕ) → (message : List ℕ) → ℕ
 read_confirmation_code profile message =

@@ -1,9 +1,10 @@
 // Messages read back, and unpacked into buffers. Each section of an accepted message is as long as its part asks, so that no
 // step after reading can refuse.
 ghost use Rattle.std.specs.Prelude.{◌≡◌, ◌==◌, length};
+ghost use Rattle.ring.specs.Faults.{after_part};
 ghost use Rattle.exports.specs.Codes.{no_call};
 ghost use Rattle.exports.specs.Writing.{if_seed};
-ghost use Rattle.exports.specs.Reading.{room_answer, offer_read, answer_read, confirmation_read, round_told, part_after, seed_of, values_of, signals_of};
+ghost use Rattle.exports.specs.Reading.{room_answer, offer_read, answer_read, confirmation_read, round_told, seed_of, values_of, signals_of};
 ghost use Rattle.exports.specs.Reading.{read_offer_code, read_offer_seed, read_offer_values};
 ghost use Rattle.exports.specs.Reading.{read_answer_code, read_answer_values, read_answer_signals, read_confirmation_code};
 
@@ -54,9 +55,9 @@ fn read_offer<P: Profile>(
     requires { length seed.old ≡ 16 }
     ensures answer { result ≡ round_told (offer_read P.NUMBERS message.now (length values.old)) }
     ensures seed { let answer = offer_read P.NUMBERS message.now (length values.old) in
-        seed.new ≡ part_after seed_of answer seed.old }
+        seed.new ≡ after_part seed_of answer seed.old }
     ensures values { let answer = offer_read P.NUMBERS message.now (length values.old) in
-        values.new ≡ part_after values_of answer values.old }
+        values.new ≡ after_part values_of answer values.old }
 {
     check_room::<P>(values, 1)?;
     let offer = message::read_offer::<P>(message)?;
@@ -77,9 +78,9 @@ fn read_answer<P: Profile>(
     ensures answer { let answer = answer_read P.NUMBERS message.now (length values.old) (length signals.old) in
         result ≡ round_told answer }
     ensures values { let answer = answer_read P.NUMBERS message.now (length values.old) (length signals.old) in
-        values.new ≡ part_after values_of answer values.old }
+        values.new ≡ after_part values_of answer values.old }
     ensures signals { let answer = answer_read P.NUMBERS message.now (length values.old) (length signals.old) in
-        signals.new ≡ part_after signals_of answer signals.old }
+        signals.new ≡ after_part signals_of answer signals.old }
 {
     check_room::<P>(values, 1)?;
     check_room::<P>(signals, 2)?;

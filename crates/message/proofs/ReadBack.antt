@@ -7,7 +7,7 @@ use Rattle.profile.specs.Laws.{InRange}
 use Rattle.packing.specs.Lengths.{packed_length}
 use Rattle.message.specs.Lengths.{values_length, signals_length}
 use Rattle.profile.specs.declared.numbers.Numbers.{Numbers}
-use Rattle.profile.proofs.Ranges.{packed_bits_most}
+use Rattle.profile.proofs.Ranges.{n_most}
 use Rattle.packing.specs.Packing.{number, packed, unpacked}
 use Rattle.packing.proofs.Eights.{length-packed}
 use Rattle.packing.proofs.Laws.{number_of_packed, unpacks_what_was_packed}
@@ -20,6 +20,7 @@ use Rattle.ring.specs.Faults.{unless}
 use Rattle.message.specs.Sections.{stretch}
 use Rattle.message.specs.Shapes.{layout, shape_fault}
 use Rattle.message.proofs.Heads.{head_right, round_back}
+use Rattle.message.proofs.LengthBounds.{packed_length_most}
 use Rattle.message.proofs.Rows.{found, found_here, ends}
 
 -- ---- numbers in a section
@@ -38,10 +39,10 @@ module _ (n w : ℕ) (xs : List ℕ) (are : AreNumbers n w xs) where
 
 module _ (k : Numbers) (range : InRange k) where
   pub values_few : values_length k < 2 ^ 16
-  values_few = omega (arith, packed_bits_most k k k.w refl range range.w_most)
+  values_few = omega (arith, packed_length_most k.n k.w (n_most k range) range.w_most)
 
   pub signals_few : signals_length k < 2 ^ 16
-  signals_few = omega (arith, packed_bits_most k k k.signal_width refl range (omega (arith, range.width_most)))
+  signals_few = omega (arith, packed_length_most k.n k.signal_width (n_most k range) (omega (arith, range.width_most)))
 
   -- ---- each kind
 

@@ -1,10 +1,10 @@
 -- What each answer of writing says of the parts and of the room, and that what fits is accepted.
 use Rattle.std.proofs.Common.{◌≡◌, ℕ, ◌+◌, ◌^◌, eqb, leb, List, length, inl, inr, Ok, Err, Result, sym, refl, ◌∙◌, subst, arith}
-use Rattle.std.proofs.lemmas.Bool.{cond-true, cond_both, eq-eqb, eqb-true, eqb-false, le-leb, leb-true, leb-false}
+use Rattle.std.proofs.lemmas.Bool.{cond-true, cond_both, eq-eqb, eqb-true, eqb-false, leb-true, leb-false}
 use Rattle.ring.specs.Elements.{AllBelow, FirstNotBelow, front_below}
 use Rattle.ring.specs.declared.fault.Fault.{Fault}
 use Rattle.ring.specs.declared.fault.Fault.TheVariants.{OutOfRange}
-use Rattle.ring.proofs.Elements.{all_below, first_not_below, front_reaches}
+use Rattle.ring.proofs.Elements.{all_below, first_not_below, front_passed}
 use Rattle.profile.specs.declared.numbers.Numbers.{Numbers}
 use Rattle.message.specs.Lengths.{offer_length, answer_length, confirmation_length}
 use Rattle.message.specs.Messages.{Message, offer, answer, confirmation}
@@ -21,7 +21,7 @@ module _ (n w : ℕ) (xs : List ℕ) (long : length xs ≡ n) (first : ℕ) (res
       (λ stops. stop (front_below bound xs) (first_not_below bound xs (omega (arith, leb-false _ _ stops))))
 
   passed : AllBelow (2 ^ w) xs → check_fit n w first xs rest ≡ rest
-  passed fit = cond-true _ _ _ (le-leb n (front_below (2 ^ w) xs) (omega (arith, front_reaches (2 ^ w) xs fit)))
+  passed fit = cond-true _ _ _ (front_passed (2 ^ w) n xs long fit)
 
 -- ---- what each answer says
 

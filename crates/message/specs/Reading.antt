@@ -1,5 +1,5 @@
 -- Reading a message: what parts it has, and where it is refused.
-use Rattle.std.specs.Prelude.{◌≡◌, ℕ, ◌+◌, ◌-◌, ◌*◌, ◌^◌, ◌==◌, List, Ok, Err, Result, Some, None, Option, drop, slice_index, nat_lt, if◌then◌else◌}
+use Rattle.std.specs.Prelude.{◌≡◌, ℕ, ◌+◌, ◌-◌, ◌*◌, ◌^◌, ◌==◌, List, Result, Some, None, Option, drop, slice_index, nat_lt, if◌then◌else◌}
 use Rattle.std.specs.Borrow.{Bor}
 use Rattle.std.specs.Option.{option_or}
 use Rattle.message.specs.Lengths.{values_length, signals_length}
@@ -97,16 +97,13 @@ pub record IsConfirmation (message : Bor (List ℕ)) (c : ConfirmationSections) 
   pub round : c.round ≡ round_in (head_of message.now)
   pub head : IsStretch message c.head 2 7
 
--- the parts that the sections hold, where they are handed out
+-- the parts that the sections hold
 
-abbrev pub read_as_offer : Numbers → Result OfferSections Fault → Result Message Fault
-read_as_offer k (Ok o) = Ok (offer o.round o.seed.bytes.now (unpacked k.w k.n o.values.bytes.now))
-read_as_offer k (Err fault) = Err fault
+abbrev pub parts_of_offer : Numbers → OfferSections → Message
+parts_of_offer k o = offer o.round o.seed.bytes.now (unpacked k.w k.n o.values.bytes.now)
 
-abbrev pub read_as_answer : Numbers → Result AnswerSections Fault → Result Message Fault
-read_as_answer k (Ok a) = Ok (answer a.round (unpacked k.w k.n a.values.bytes.now) (unpacked k.signal_width k.n a.signals.bytes.now))
-read_as_answer k (Err fault) = Err fault
+abbrev pub parts_of_answer : Numbers → AnswerSections → Message
+parts_of_answer k a = answer a.round (unpacked k.w k.n a.values.bytes.now) (unpacked k.signal_width k.n a.signals.bytes.now)
 
-abbrev pub read_as_confirmation : Numbers → Result ConfirmationSections Fault → Result Message Fault
-read_as_confirmation k (Ok c) = Ok (confirmation c.round)
-read_as_confirmation k (Err fault) = Err fault
+abbrev pub parts_of_confirmation : ConfirmationSections → Message
+parts_of_confirmation c = confirmation c.round

@@ -1,9 +1,10 @@
 // Reading messages back to their sections.
 ghost use Rattle.std.specs.Prelude.{◌≡◌, ◌+◌, ◌^◌, ◌<◌, ◌≤◌, IfOk, [], length};
 ghost use Rattle.std.specs.Result.{result_err};
-ghost use Rattle.packing.specs.Packing.{unpacked};
-ghost use Rattle.message.specs.Messages.{answer, confirmation, encoded, offer};
-ghost use Rattle.message.specs.Reading.{IsOffer, IsAnswer, IsConfirmation, head_fault, read_as_offer, read_as_answer, read_as_confirmation, reading, reading_fault, round_in, spare_bit_fault};
+ghost use Rattle.ring.specs.Faults.{told};
+ghost use Rattle.message.specs.Messages.{encoded};
+ghost use Rattle.message.specs.Reading.{IsOffer, IsAnswer, IsConfirmation, parts_of_offer, parts_of_answer, parts_of_confirmation};
+ghost use Rattle.message.specs.Reading.{head_fault, reading, reading_fault, round_in, spare_bit_fault};
 ghost use Rattle.message.specs.ReadingLaws.{ReadingMeans};
 ghost use Rattle.message.specs.Shapes.{IsStretch, section_fault, shape_fault};
 ghost use Rattle.message.specs.declared.kind.Kind.TheVariants.{Offer, Answer, Confirmation};
@@ -17,12 +18,12 @@ use profile::Profile;
 
 // Reads a message as an offer.
 pub fn read_offer<P: Profile>(message: &[u8]) -> Result<OfferSections<'_>, Fault>
-    ensures answer { read_as_offer P.NUMBERS result ≡ reading P.NUMBERS Offer message.now }
+    ensures answer { told (parts_of_offer P.NUMBERS) result ≡ reading P.NUMBERS Offer message.now }
     ensures fault { result_err result ≡ reading_fault P.NUMBERS Offer message.now }
-    ensures means { ReadingMeans P.NUMBERS Offer message.now (read_as_offer P.NUMBERS result) }
+    ensures means { ReadingMeans P.NUMBERS Offer message.now (told (parts_of_offer P.NUMBERS) result) }
     ensures sections { IfOk result (λ o. IsOffer P.NUMBERS message.entry o) }
     ensures writes_back { let k = P.NUMBERS in
-        IfOk result (λ o. encoded k (offer o.round o.seed.bytes.now (unpacked k.w k.n o.values.bytes.now)) ≡ message.now) }
+        IfOk result (λ o. encoded k (parts_of_offer k o) ≡ message.now) }
 {
     let (head, at) = read_section(message, 0, HEAD_LENGTH)?;
     let (seed, at) = read_section(message, at, SEED_LENGTH)?;
@@ -39,12 +40,12 @@ pub fn read_offer<P: Profile>(message: &[u8]) -> Result<OfferSections<'_>, Fault
 
 // Reads a message as an answer.
 pub fn read_answer<P: Profile>(message: &[u8]) -> Result<AnswerSections<'_>, Fault>
-    ensures answer { read_as_answer P.NUMBERS result ≡ reading P.NUMBERS Answer message.now }
+    ensures answer { told (parts_of_answer P.NUMBERS) result ≡ reading P.NUMBERS Answer message.now }
     ensures fault { result_err result ≡ reading_fault P.NUMBERS Answer message.now }
-    ensures means { ReadingMeans P.NUMBERS Answer message.now (read_as_answer P.NUMBERS result) }
+    ensures means { ReadingMeans P.NUMBERS Answer message.now (told (parts_of_answer P.NUMBERS) result) }
     ensures sections { IfOk result (λ a. IsAnswer P.NUMBERS message.entry a) }
     ensures writes_back { let k = P.NUMBERS in
-        IfOk result (λ a. encoded k (answer a.round (unpacked k.w k.n a.values.bytes.now) (unpacked k.signal_width k.n a.signals.bytes.now)) ≡ message.now) }
+        IfOk result (λ a. encoded k (parts_of_answer k a) ≡ message.now) }
 {
     let (head, at) = read_section(message, 0, HEAD_LENGTH)?;
     let (values, at) = read_section(message, at, values_length::<P>())?;
@@ -62,11 +63,11 @@ pub fn read_answer<P: Profile>(message: &[u8]) -> Result<AnswerSections<'_>, Fau
 
 // Reads a message as a confirmation.
 pub fn read_confirmation<P: Profile>(message: &[u8]) -> Result<ConfirmationSections<'_>, Fault>
-    ensures answer { read_as_confirmation P.NUMBERS result ≡ reading P.NUMBERS Confirmation message.now }
+    ensures answer { told parts_of_confirmation result ≡ reading P.NUMBERS Confirmation message.now }
     ensures fault { result_err result ≡ reading_fault P.NUMBERS Confirmation message.now }
-    ensures means { ReadingMeans P.NUMBERS Confirmation message.now (read_as_confirmation P.NUMBERS result) }
+    ensures means { ReadingMeans P.NUMBERS Confirmation message.now (told parts_of_confirmation result) }
     ensures sections { IfOk result (λ c. IsConfirmation message.entry c) }
-    ensures writes_back { IfOk result (λ c. encoded P.NUMBERS (confirmation c.round) ≡ message.now) }
+    ensures writes_back { IfOk result (λ c. encoded P.NUMBERS (parts_of_confirmation c) ≡ message.now) }
 {
     let (head, at) = read_section(message, 0, HEAD_LENGTH)?;
     check_end(message, at)?;

@@ -2,7 +2,7 @@
 use Rattle.std.proofs.Common.{◌≡◌, ℕ, ◌≤◌, eqb, leb, List, length, Ok, Result, refl, sym, ◌∙◌, subst, inl, inr, arith}
 use Rattle.std.proofs.lemmas.Bool.{cond-true, cond_both, eq-eqb, le-leb, eqb-true, eqb-false, leb-true, leb-false}
 use Rattle.ring.specs.Elements.{front_below}
-use Rattle.ring.proofs.Elements.{all_below, first_not_below, front_reaches}
+use Rattle.ring.proofs.Elements.{all_below, first_not_below, front_passed}
 use Rattle.ring.specs.declared.fault.Fault.{Fault}
 use Rattle.multiplier.specs.Multipliers.{Fitting, LengthsFit, MultiplyMeans, multiply_answer}
 
@@ -50,11 +50,9 @@ answer_means n q need left right scratch output answer is =
 pub fitting_is_accepted : (n q need : ℕ) (left right : List ℕ) (scratch output : ℕ) → Fitting n q need left right scratch output → multiply_answer n q need left right scratch output ≡ Ok tt
 fitting_is_accepted n q need left right scratch output fitting =
     let fit = fitting.lengths in
-    let left_far = front_reaches q left fitting.left_below in
-    let right_far = front_reaches q right fitting.right_below in
     cond-true _ _ _ (eq-eqb (length left) n fit.left_long)
     ∙ cond-true _ _ _ (eq-eqb (length right) n fit.right_long)
     ∙ cond-true _ _ _ (le-leb need scratch fit.scratch_long)
     ∙ cond-true _ _ _ (eq-eqb output n fit.output_long)
-    ∙ cond-true _ _ _ (le-leb n (front_below q left) (omega arith))
-    ∙ cond-true _ _ _ (le-leb n (front_below q right) (omega arith))
+    ∙ cond-true _ _ _ (front_passed q n left fit.left_long fitting.left_below)
+    ∙ cond-true _ _ _ (front_passed q n right fit.right_long fitting.right_below)

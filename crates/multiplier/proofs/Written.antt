@@ -4,7 +4,7 @@ use Rattle.std.proofs.lemmas.Nat.{mod_below}
 use Rattle.std.proofs.lemmas.List.{ext_get_or, length-append, length-map}
 use Rattle.std.proofs.lemmas.List.Elements.{All-append, All-map, All-weaker}
 use Rattle.element.specs.Products.{product}
-use Rattle.element.proofs.Shapes.{length_product, get_or_product, product_below}
+use Rattle.element.proofs.Shapes.{length_product, get_or_product, product_is_element as is_element}
 use Rattle.ring.specs.Elements.{AllBelow, IsElement}
 use Rattle.ring.specs.declared.modulus.Modulus.{Modulus}
 use Rattle.multiplier.specs.Sums.{AreFactors, AreRows, negated, coefficient_mod, sum_of_rows}
@@ -46,7 +46,4 @@ module _ (modulus : Modulus) (left right : List ℕ) (f : AreFactors modulus.q l
 -- where the product is written, there is an element
 pub product_is_element : (modulus : Modulus) (n : ℕ) (left right output : List ℕ) → output ≡ product n modulus.q left right → IsElement n modulus.q output
 product_is_element modulus n left right output is =
-    subst (IsElement n modulus.q) (sym is) (record {
-      long = length_product n modulus.q left right;
-      below = product_below n modulus.q left right (omega (arith, modulus.at_least));
-    })
+    subst (IsElement n modulus.q) (sym is) (is_element n modulus.q left right (omega (arith, modulus.at_least)))

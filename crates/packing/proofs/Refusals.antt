@@ -1,7 +1,7 @@
 -- What the answers of packing and unpacking mean, and that what is right is accepted.
 use Rattle.std.proofs.Common.{ℕ, ◌^◌, eqb, leb, List, length, refl, ◌∙◌}
-use Rattle.std.proofs.lemmas.Bool.{cond-true, cond_both, le-leb, leb-true, leb-false, eq-eqb, eqb-true, eqb-false}
-use Rattle.ring.proofs.Elements.{all_below, first_not_below, front_reaches}
+use Rattle.std.proofs.lemmas.Bool.{cond-true, cond_both, leb-true, leb-false, eq-eqb, eqb-true, eqb-false}
+use Rattle.ring.proofs.Elements.{all_below, first_not_below, front_passed}
 use Rattle.packing.specs.Lengths.{packed_length}
 use Rattle.packing.specs.Packing.{front_fitting, pack_answer, pack_numbers_answer, unpack_answer}
 use Rattle.packing.specs.Refusals.{PackMeans, PackNumbersMeans, PackingRefusals, PackingRefusesTheFirst, UnpackMeans}
@@ -36,7 +36,7 @@ module _ (w : ℕ) where
     packs = λ xs room right. cond-true _ _ _ (eq-eqb room (packed_length (length xs) w) right);
     packs_numbers = λ xs room right fit.
         cond-true _ _ _ (eq-eqb room (packed_length (length xs) w) right)
-        ∙ cond-true _ _ _ (le-leb (length xs) (front_fitting w xs) (front_reaches (2 ^ w) xs fit));
+        ∙ cond-true _ _ _ (front_passed (2 ^ w) (length xs) xs refl fit);
     unpacks = λ bytes many long. cond-true _ _ _ (eq-eqb (length bytes) (packed_length many w) long);
   }
 

@@ -1,5 +1,5 @@
 -- Bounds that generic code has from the laws of a profile.
-use Rattle.std.proofs.Common.{◌≡◌, ℕ, ◌+◌, ◌*◌, ◌^◌, ◌<◌, ◌≤◌, ⊎_elim, ap, arith, pow_mono}
+use Rattle.std.proofs.Common.{ℕ, ◌+◌, ◌*◌, ◌^◌, ◌<◌, ◌≤◌, ⊎_elim, arith, pow_mono}
 use Rattle.std.proofs.lemmas.Nat.{mul-le}
 use Rattle.profile.specs.Laws.{Functions, InRange, Lawful}
 use Rattle.profile.specs.declared.numbers.Numbers.{Numbers}
@@ -17,8 +17,3 @@ q_least k f law =
     let error : 1 * 1 ≤ k.step * k.e = mul-le 1 1 k.step k.e step range.e_least in
     let both : (2 * 1) * 1 ≤ (2 * k.l) * (k.step * k.e + k.r) = mul-le (2 * 1) 1 (2 * k.l) (k.step * k.e + k.r) (omega (arith, range.l_least)) (omega arith) in
     omega (arith, law.within_tolerance, range.tau_below)
-
--- the bits that n numbers of at most 16 bits take
-pub packed_bits_most : (k stated : Numbers) (width : ℕ) → stated ≡ k → InRange k → width ≤ 16 → stated.n * width ≤ 1024 * 16
-packed_bits_most k stated width is range few =
-    mul-le stated.n width 1024 16 (omega (arith, n_most k range, ap (λ (s : Numbers). s.n) is)) few

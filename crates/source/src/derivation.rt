@@ -25,10 +25,10 @@ pub fn derive<P: Profile, S: ByteSource>(
         result ≡ derive_answer P.NUMBERS.n P.NUMBERS.q bytes (length output.old) }
     ensures writes { let bytes = S.meaning source.old seed.now in
         output.new ≡ after result (derived P.NUMBERS.n P.NUMBERS.q bytes) output.old }
-    ensures answer_means { let bytes = S.meaning source.old seed.now in
+    ensures means { let bytes = S.meaning source.old seed.now in
         DeriveMeans P.NUMBERS.n P.NUMBERS.q bytes (length output.old) result }
     ensures element { OnOk result (IsElement P.NUMBERS.n P.NUMBERS.q output.new) }
-    ensures means { S.meaning source.new ≡ S.meaning source.old }
+    ensures same_meaning { S.meaning source.new ≡ S.meaning source.old }
     ensures untouched { result ≡ Err (WrongLength 4) → source.new ≡ source.old }
 {
     if output.len() != P::NUMBERS.n {

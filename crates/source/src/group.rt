@@ -8,7 +8,7 @@ use crate::source::ByteSource;
 // The number that the next bytes write, the lowest first; nothing where there are not so many.
 pub(crate) fn next_number<S: ByteSource>(source: &mut S, bytes: u32) -> Option<u32>
     requires { bytes ≤ 4 }
-    ensures means { S.meaning source.new ≡ S.meaning source.old }
+    ensures same_meaning { S.meaning source.new ≡ S.meaning source.old }
     ensures reads { S.reading source.new ≡ S.reading source.old }
     ensures gives { GivesGroup bytes (ahead S.ByteSource source.old) result (ahead S.ByteSource source.new) }
 {

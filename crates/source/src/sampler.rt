@@ -36,7 +36,7 @@ impl Sampler {
 
     // The next number that is kept, or nothing once the list is used up.
     fn next<S: ByteSource>(self, source: &mut S) -> Option<u32>
-        ensures means { S.meaning source.new ≡ S.meaning source.old }
+        ensures same_meaning { S.meaning source.new ≡ S.meaning source.old }
         ensures gives { let all = kept self.modulus.q (ahead S.ByteSource source.old) in
             MatchOption result (all ≡ []) (λ x. all ≡ x ∷ kept self.modulus.q (ahead S.ByteSource source.new)) }
     {
@@ -51,7 +51,7 @@ impl Sampler {
 
     // Fills `numbers` with the first ones that the list ahead gives, or says how many it gives.
     fn fill<S: ByteSource>(self, source: &mut S, numbers: &mut [u32]) -> Result<(), Fault>
-        ensures means { S.meaning source.new ≡ S.meaning source.old }
+        ensures same_meaning { S.meaning source.new ≡ S.meaning source.old }
         ensures answer { let all = kept self.modulus.q (ahead S.ByteSource source.old) in
             result ≡ keep_answer (length numbers.old) all }
         ensures fills { let bytes = ahead S.ByteSource source.old in
@@ -71,7 +71,7 @@ impl Sampler {
         output: &mut [u32],
     ) -> Result<(), Fault>
         requires { length output.old ≤ length room.old }
-        ensures means { S.meaning source.new ≡ S.meaning source.old }
+        ensures same_meaning { S.meaning source.new ≡ S.meaning source.old }
         ensures answer { let all = kept self.modulus.q (ahead S.ByteSource source.old) in
             result ≡ keep_answer (length output.old) all }
         ensures fills { let bytes = ahead S.ByteSource source.old in

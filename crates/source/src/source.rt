@@ -15,13 +15,13 @@ pub trait ByteSource: Drop {
 
     // Goes to the start of the seed's list.
     fn begin(&mut self, seed: &[u8; 16])
-        ensures means { meaning self.new ≡ meaning self.old }
+        ensures same_meaning { meaning self.new ≡ meaning self.old }
         ensures reads { reading self.new ≡ meaning self.old seed.now }
         ensures starts { position self.new ≡ 0 };
 
     // The next byte of the list, or nothing once it is used up.
     fn next(&mut self) -> Option<u8>
-        ensures means { meaning self.new ≡ meaning self.old }
+        ensures same_meaning { meaning self.new ≡ meaning self.old }
         ensures reads { reading self.new ≡ reading self.old }
         ensures gives { Gives (reading self.old) (position self.old) result (position self.new) };
 }

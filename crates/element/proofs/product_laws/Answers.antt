@@ -1,5 +1,5 @@
 use Rattle.element.proofs.Elements.{integer_product_one, integer_product_x, integer_product_add_left, integer_product_scaled_left, integer_product_add_right, integer_product_scaled_right, integer_product_comm, integer_product_exchange, product_comm, product_exchange, product_residues, product_add_left, product_add_right}
-use Rattle.element.proofs.Shapes.{length_product, product_below}
+use Rattle.element.proofs.Shapes.{length_product, product_is_element}
 use Rattle.element.proofs.Sizes.{size_of_coefficient}
 use Rattle.element.proofs.product_laws.Goals as goal
 
@@ -20,5 +20,5 @@ returns c = record {
   element_sum_on_the_left = product_add_left;
   element_sum_on_the_right = product_add_right;
   length_of_product = length_product;
-  numbers_below_q = product_below;
+  is_element = product_is_element;
 }

@@ -1,9 +1,10 @@
 use Rattle.std.proofs.Common.{◌≡◌, Ok, None, Option, sym, rules}
+use Rattle.ring.specs.Faults.{told}
 use Rattle.packing.proofs.Splitting.{bytes_fit}
 use Rattle.message.specs.Lengths.{values_length, signals_length}
 use Rattle.message.specs.declared.fault.Fault.{Fault}
 use Rattle.message.specs.declared.kind.Kind.TheVariants.{Answer}
-use Rattle.message.specs.Reading.{answer_values_at, head_of, read_as_answer, reading_fault, round_in, signals_at}
+use Rattle.message.specs.Reading.{answer_values_at, head_of, parts_of_answer, reading_fault, round_in, signals_at}
 use Rattle.message.specs.Sections.{stretch}
 use Rattle.message.proofs.ReadingLaws.{read_means}
 use Rattle.message.proofs.WrittenAgain.{same_answer}
@@ -28,5 +29,5 @@ returns-in_err-check_spare_bits-clause-means g c =
 pub returns-clause-means : goal.returns-clause-means
 returns-clause-means g c =
     let k = g.P.Profile.NUMBERS in
-    let handed = read_as_answer k (Ok (record { round = c.in_ok-round.round; head = c.in_ok-head.head; values = c.in_ok-values.values; signals = c.in_ok-signals.signals })) in
+    let handed = told (parts_of_answer k) (Ok (record { round = c.in_ok-round.round; head = c.in_ok-head.head; values = c.in_ok-values.values; signals = c.in_ok-signals.signals })) in
     read_means k Answer c.args.message.now handed (λ i. (c.type_inv.message i).fits) (search rules)

@@ -1,9 +1,10 @@
 use Rattle.std.proofs.Common.{◌≡◌, Ok, None, Option, sym, rules}
+use Rattle.ring.specs.Faults.{told}
 use Rattle.packing.proofs.Splitting.{bytes_fit}
 use Rattle.message.specs.Lengths.{values_length}
 use Rattle.message.specs.declared.fault.Fault.{Fault}
 use Rattle.message.specs.declared.kind.Kind.TheVariants.{Offer}
-use Rattle.message.specs.Reading.{head_of, offer_values_at, read_as_offer, reading_fault, round_in, seed_at}
+use Rattle.message.specs.Reading.{head_of, offer_values_at, parts_of_offer, reading_fault, round_in, seed_at}
 use Rattle.message.specs.Sections.{stretch}
 use Rattle.message.proofs.ReadingLaws.{read_means}
 use Rattle.message.proofs.WrittenAgain.{same_offer}
@@ -24,5 +25,5 @@ returns-in_err-round-clause-means g c = read_means g.P.Profile.NUMBERS Offer c.a
 pub returns-clause-means : goal.returns-clause-means
 returns-clause-means g c =
     let k = g.P.Profile.NUMBERS in
-    let handed = read_as_offer k (Ok (record { round = c.in_ok-round.round; head = c.in_ok-head.head; seed = c.in_ok-seed.seed; values = c.in_ok-values.values })) in
+    let handed = told (parts_of_offer k) (Ok (record { round = c.in_ok-round.round; head = c.in_ok-head.head; seed = c.in_ok-seed.seed; values = c.in_ok-values.values })) in
     read_means k Offer c.args.message.now handed (λ i. (c.type_inv.message i).fits) (search rules)

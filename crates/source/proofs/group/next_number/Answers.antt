@@ -18,7 +18,7 @@ loop-i-preserved g c =
     let byte : b < 256 = omega arith in
     let few : c.loop-i.i < 4 = omega arith in
     record {
-      means = f.means ∙ inv.means;
+      same_meaning = f.same_meaning ∙ inv.same_meaning;
       reads = f.reads ∙ inv.reads;
       group = rw (same, or_byte c.loop-i.number b c.loop-i.i inv.low byte few) (group_more _ _ _ _ inv.group b _ first);
       low = rw same (or_byte_below c.loop-i.number b c.loop-i.i inv.low byte few);

@@ -8,7 +8,7 @@ abbrev pub invariant-loop-i : goal.invariant-loop-i
 invariant-loop-i g l =
     let s = g.S.ByteSource in
     record {
-      means : s.meaning l.source ≡ s.meaning l.initial.source;
+      same_meaning : s.meaning l.source ≡ s.meaning l.initial.source;
       reads : s.reading l.source ≡ s.reading l.initial.source;
       group : WholeGroup l.i (ahead s l.initial.source) l.number (ahead s l.source);
       low : l.number < 2 ^ (8 * l.i);

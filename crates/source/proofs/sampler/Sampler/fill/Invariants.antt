@@ -8,6 +8,6 @@ abbrev pub invariant-loop-count : goal.invariant-loop-count
 invariant-loop-count g l =
     let s = g.S.ByteSource in
     record {
-      means : s.meaning l.source ≡ s.meaning l.initial.source;
+      same_meaning : s.meaning l.source ≡ s.meaning l.initial.source;
       so_far : take l.count l.numbers ++ kept l.self.modulus.q (ahead s l.source) ≡ kept l.self.modulus.q (ahead s l.initial.source);
     }

@@ -16,6 +16,6 @@ loop-number-preserved g c =
     let inv = c.loop-number.invariant in
     let f = c.in_ok-next_number.ensures in
     record {
-      means = f.means ∙ inv.means;
+      same_meaning = f.same_meaning ∙ inv.same_meaning;
       keeps = sym (kept_no c.args.self _ _ _ f.gives _ c.low_bits-number.ensures (omega (arith, c.if-number-q.false, c.value-q.ensures))) ∙ inv.keeps;
     }

@@ -8,7 +8,7 @@ abbrev pub invariant-loop-number : goal.invariant-loop-number
 invariant-loop-number g l =
     let s = g.S.ByteSource in
     record {
-      means : s.meaning l.source ≡ s.meaning l.initial.source;
+      same_meaning : s.meaning l.source ≡ s.meaning l.initial.source;
       keeps : kept l.self.modulus.q (ahead s l.source) ≡ kept l.self.modulus.q (ahead s l.initial.source);
     }
 
