@@ -62,7 +62,7 @@ impl<S: NumberSet, K: Reconciler> Profile for House<S, K> {
     type Secret = Place<House<S, K>>;
 
     const NUMBERS: Numbers = Numbers {
-        n: S::SIZES.n,
+        n: Self::BOUNDS.n,
         q: S::SIZES.q,
         p: S::SIZES.p,
         w: S::SIZES.w,

@@ -3,10 +3,10 @@ use Rattle.std.proofs.Common.{inl, inr, ◌≡◌, ℕ, suc, ◌+◌, ◌<◌, �
 use Rattle.std.specs.Prelude.{All}
 use Rattle.std.proofs.lemmas.List.{at_drop_more, at_drop_all}
 use Rattle.std.proofs.lemmas.List.Sums.{sum_by-cons, prefix_len_stops}
-use Rattle.std.proofs.lemmas.Bool.{cases_Bool, cond-true, cond-false, cond_both, le-leb, lt-leb, leb-true, leb-false, eqb-true, eqb-false}
+use Rattle.std.proofs.lemmas.Bool.{cases_Bool, cases_lt, cond-true, cond-false, cond_both, le-leb, lt-leb, leb-true, leb-false, eqb-true, eqb-false}
 use Rattle.profile.specs.declared.bounds.Bounds.{Bounds}
-use Rattle.ring.proofs.Elements.{whole_passes, front_passes, whole_or_first}
-use Rattle.profile.specs.Secrets.{FillMeans, FirstBeyond, IsFrontWithin, FirstPast, LawfulSecret, fill_answer, front_within, front_summing}
+use Rattle.ring.proofs.Elements.{whole_passes, front_passes, whole_front, whole_or_first}
+use Rattle.profile.specs.Secrets.{FillMeans, FirstBeyond, IsFrontSumming, IsFrontWithin, FirstPast, LawfulSecret, fill_answer, front_within, front_summing}
 
 module _ (xs : List ℤ) (i sum l : ℕ) where
   pub summing_more : i < length xs → sum + nat_abs (get_or xs i (pos 0)) ≤ l → front_summing sum l (drop i xs) ≡ 1 + front_summing (sum + nat_abs (get_or xs i (pos 0))) l (drop (i + 1) xs)
@@ -35,6 +35,15 @@ sum_within sum l (x ∷ xs) start h =
     (λ f. absurd (omega (arith, cond-false (leb s l) (1 + front_summing s l xs) 0 f)))
     (cases_Bool (leb s l))
 
+summing_most : (sum l : ℕ) (xs : List ℤ) → front_summing sum l xs ≤ length xs
+summing_most sum l [] = omega arith
+summing_most sum l (x ∷ xs) =
+    let s = sum + nat_abs x in
+    ⊎_elim
+    (λ t. omega (arith, cond-true (leb s l) (1 + front_summing s l xs) 0 t, summing_most s l xs))
+    (λ f. omega (arith, cond-false (leb s l) (1 + front_summing s l xs) 0 f))
+    (cases_Bool (leb s l))
+
 -- a list of the right length that passes both tests
 pub lawful_within : (b : Bounds) (xs : List ℤ) → length xs ≡ b.n → b.n ≤ front_within b.e xs → b.n ≤ front_summing 0 b.l xs → LawfulSecret b xs
 lawful_within b xs long small light = record {
@@ -58,6 +67,10 @@ is_front_within e xs =
     (λ whole. inl (whole, all_within e xs (omega arith)))
     (λ shorter. inr (within_first e xs shorter))
     (whole_or_first (λ x. leb (nat_abs x) e) xs)
+
+-- where no size is above e, none stops the front
+pub front_within_reaches : (e : ℕ) (xs : List ℤ) → All (λ x. nat_abs x ≤ e) xs → length xs ≤ front_within e xs
+front_within_reaches e xs small = whole_front (λ x. leb (nat_abs x) e) xs (pos 0) (λ k h. le-leb _ _ (small k (pos 0) h))
 
 -- i is where the sum, running on from `sum`, first passes l
 abbrev PastFrom : ℕ → ℕ → List ℤ → ℕ → Type 0
@@ -85,6 +98,13 @@ summing_first l xs h =
     let i = front_summing 0 l xs in
     let past = past_from 0 l xs (omega arith) h in
     record { inside = past.0; before = omega (arith, past.1); here = rw add-one (omega (arith, past.2)) }
+
+pub is_front_summing : (l : ℕ) (xs : List ℤ) → IsFrontSumming l xs (front_summing 0 l xs)
+is_front_summing l xs =
+    ⊎_elim
+    (λ (shorter : front_summing 0 l xs < length xs). inr (summing_first l xs shorter))
+    (λ (whole : length xs ≤ front_summing 0 l xs). inl (omega (arith, summing_most 0 l xs), omega (arith, sum_within 0 l xs (omega arith) whole)))
+    (cases_lt (front_summing 0 l xs) (length xs))
 
 pub fill_means : (b : Bounds) (xs : List ℤ) → FillMeans b xs (fill_answer b xs)
 fill_means b xs =

@@ -1,3 +1,4 @@
 pub mod Accepted
+pub mod AnswerLaws
 pub mod Fronts
 pub mod Ranges

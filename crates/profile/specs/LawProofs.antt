@@ -18,4 +18,4 @@ by_filled b true words lawful clear = record {
 by_filled b false words lawful clear = record { unfilled = λ e. clear refl; lawful = λ xs e. cc; in_words = λ xs e. cc }
 
 pub place_unfilled_or_lawful : {P : Type 0} {g : Ghosts P} → (s : Place P g) → UnfilledOrLawful g.BOUNDS (place_held s) (place_memory s)
-place_unfilled_or_lawful s = by_filled _ s.filled s.coefficients.items s.lawful s.clear
+place_unfilled_or_lawful s = by_filled _ s.filled s.memory.words.items s.lawful s.clear

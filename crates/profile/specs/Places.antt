@@ -4,7 +4,7 @@ use Rattle.profile.specs.declared.bounds.SecretBounds.{Ghosts}
 use Rattle.profile.specs.declared.place.Place.{Place}
 
 abbrev pub place_held : {P : Type 0} {g : Ghosts P} → Place P g → Option (List ℤ)
-place_held s = if s.filled then Some (vec_items s.coefficients) else None
+place_held s = if s.filled then Some (vec_items s.memory.words) else None
 
 abbrev pub place_memory : {P : Type 0} {g : Ghosts P} → Place P g → List ℤ
-place_memory s = vec_items s.coefficients
+place_memory s = vec_items s.memory.words

@@ -51,6 +51,10 @@ pub record FirstPast (l : ℕ) (xs : List ℤ) (i : ℕ) : Type 0 where
   pub before : sum_by unsigned_abs (take i xs) ≤ l
   pub here : l < sum_by unsigned_abs (take (i + 1) xs)
 
+-- front coefficients have sizes that add up to at most l: all that there are, or the sum passes l at the next one
+abbrev pub IsFrontSumming : (l : ℕ) → List ℤ → (front : ℕ) → Type 0
+IsFrontSumming l xs front = ((front ≡ length xs) × (sum_by unsigned_abs xs ≤ l)) ⊎ FirstPast l xs front
+
 -- what each answer says of the list: that it is a lawful secret, or where it first is not, by length, then size, then sum
 abbrev pub FillMeans : Bounds → List ℤ → Result (Unit {0}) Fault → Type 0
 FillMeans b xs (Ok _) = LawfulSecret b xs

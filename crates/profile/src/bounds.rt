@@ -9,7 +9,8 @@ pub struct Bounds {
     pub l: u32,
 }
 
-// The bounds as a type. A profile states them for its secrets, and a place for these is a place of that profile's type.
+// The bounds as a type. A profile states them for its secrets, and a place for these is a place of that profile's type. That they
+// are those of the profile's numbers is a law of `Profile`.
 pub trait SecretBounds {
     const BOUNDS: Bounds;
 

@@ -3,7 +3,8 @@ ghost use Rattle.profile.specs.Places.{place_held, place_memory};
 ghost use Rattle.profile.specs.LawProofs.{place_unfilled_or_lawful};
 
 use crate::bounds::SecretBounds;
-use crate::place::{Place, overwrite};
+use crate::memory::{Memory, overwrite};
+use crate::place::Place;
 use crate::secret::SecretPlace;
 use crate::sizes::{front_summing, front_within};
 use ring::Fault;
@@ -22,9 +23,9 @@ impl<P: SecretBounds> SecretPlace for Place<P> {
     ghost unfilled_or_lawful = { place_unfilled_or_lawful };
 
     fn new(alloc: Global) -> Result<Self, AllocError> {
-        let coefficients = vec![in alloc; 0i32; P::BOUNDS.n]?;
+        let words = vec![in alloc; 0i32; P::BOUNDS.n]?;
         Ok(Place {
-            coefficients,
+            memory: Memory { words },
             filled: false,
             profile: PhantomData,
         })
@@ -43,21 +44,21 @@ impl<P: SecretBounds> SecretPlace for Place<P> {
         if summing < bounds.n {
             return Err(Fault::SumTooLarge(summing));
         }
-        self.coefficients.copy_from_slice(coefficients);
+        self.memory.words.copy_from_slice(coefficients);
         self.filled = true;
         Ok(())
     }
 
     fn secret(&self) -> Option<&[i32]> {
-        self.filled.then_some(self.coefficients.as_slice())
+        self.filled.then_some(self.memory.words.as_slice())
     }
 
     fn words(&self) -> &[i32] {
-        &self.coefficients
+        &self.memory.words
     }
 
     fn erase(&mut self) {
-        overwrite(&mut self.coefficients);
+        overwrite(&mut self.memory.words);
         self.filled = false;
     }
 }

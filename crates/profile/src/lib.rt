@@ -4,12 +4,15 @@
 mod bounds;
 mod errors_and_coins;
 mod holding;
+mod memory;
 mod moduli;
 mod numbers;
 mod place;
 mod profile;
 mod secret;
+mod secret_guard;
 mod sizes;
+mod theorems;
 
 pub use bounds::{Bounds, SecretBounds};
 pub use errors_and_coins::{coins_below, errors_within};
@@ -18,4 +21,6 @@ pub use numbers::Numbers;
 pub use place::Place;
 pub use profile::Profile;
 pub use secret::{SecretPlace, fill_refuses_the_first};
+pub use secret_guard::SecretGuard;
 pub use sizes::{front_summing, front_within};
+pub use theorems::functions_refuse_the_first;

@@ -7,8 +7,8 @@ ghost use Rattle.profile.specs.declared.bounds.Bounds.{Bounds};
 use ring::Fault;
 use std::alloc::{AllocError, Global};
 
-// A place is at every moment unfilled, with all its memory zero, or holds a lawful secret in it. A place that is let go
-// overwrites its memory first.
+// A place is at every moment unfilled, with all its memory zero, or holds a lawful secret in it. An impl's `drop` is to overwrite
+// the memory first, of which no clause of a trait can speak: see `Place`.
 pub trait SecretPlace: Drop {
     // The profile that the place belongs to.
     type Profile;

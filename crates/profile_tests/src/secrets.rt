@@ -1,6 +1,6 @@
 // Filling and erasing a secret place.
 use house::{House, S};
-use profile::{Profile, SecretPlace};
+use profile::{Profile, SecretGuard, SecretPlace};
 use reconcile::Ding;
 use ring::Fault;
 use std::test::Fail;
@@ -67,5 +67,17 @@ fn refused_keeps_accepted_replaces_erased_holds_nothing(rt: HostRuntime) -> Resu
     place.erase();
     assert!(rt; place.secret().is_none());
     assert_eq!(rt; place.words(), &leading(0, 1)[..]);
+    Ok(())
+}
+
+#[test]
+fn guard_uses_the_secret_up(rt: HostRuntime) -> Result<(), Fail> {
+    let mut place = SecretOfS::new(rt.alloc())?;
+    assert_eq!(rt; place.fill(&leading(4, 2)), Ok(()));
+    {
+        let guard = SecretGuard { place: &mut place };
+        assert!(rt; guard.place.secret().is_some());
+    }
+    assert!(rt; place.secret().is_none());
     Ok(())
 }

@@ -1,9 +1,10 @@
 -- What is measured of a profile by going through every residue.
-use Rattle.std.specs.Prelude.{◌≡◌, ℕ, ◌+◌, ◌*◌, ◌^◌, ◌<◌, Bool, ◌&&◌, ℤ, pos, ◌-ℤ◌, ◌≤ℤ◌, Ok, Err, Result, ◌==◌, nat_le, nat_lt, if◌then◌else◌}
+use Rattle.std.specs.Prelude.{◌≡◌, ℕ, ◌+◌, ◌*◌, ◌^◌, ◌<◌, ◌≤◌, Bool, ◌&&◌, ℤ, pos, ◌-ℤ◌, ◌≤ℤ◌, Ok, Err, Result, ◌==◌, nat_le, nat_lt, if◌then◌else◌}
 use Rattle.std.specs.Int.{int_min, int_max}
 use Rattle.ring.specs.Faults.{checked}
 use Rattle.ring.specs.declared.fault.Fault.{Fault}
-use Rattle.ring.specs.declared.fault.Fault.TheVariants.{OutOfRange, CoinOutOfRange}
+use Rattle.ring.specs.declared.fault.Fault.TheVariants.{WrongLength, OutOfRange, SumTooLarge}
+use Rattle.ring.specs.declared.fault.Fault.TheVariants.{CoinOutOfRange, SourceSpent}
 use Rattle.profile.specs.Counts.{count}
 use Rattle.profile.specs.Laws.{Functions, key_count}
 use Rattle.profile.specs.declared.numbers.Numbers.{Numbers}
@@ -51,3 +52,17 @@ keys_answer k f coin signal =
       zeros = key_count f.signal f.key_bit k.q coin signal 0;
       ones = key_count f.signal f.key_bit k.q coin signal 1;
     })))
+
+-- what each answer says of a coin and a signal: the signal first, then the coin
+abbrev pub KeysMeans : Numbers → Functions → (coin signal : ℕ) → Result KeyCounts Fault → Type 0
+KeysMeans k f coin signal (Ok counts) =
+    (signal < 2 ^ k.signal_width)
+    × (coin < k.coins)
+    × (counts.zeros ≡ key_count f.signal f.key_bit k.q coin signal 0)
+    × (counts.ones ≡ key_count f.signal f.key_bit k.q coin signal 1)
+KeysMeans k f coin signal (Err (OutOfRange place)) = (2 ^ k.signal_width ≤ signal) × (place ≡ 0)
+KeysMeans k f coin signal (Err (CoinOutOfRange place)) =
+    (signal < 2 ^ k.signal_width) × (k.coins ≤ coin) × (place ≡ 0)
+KeysMeans k f coin signal (Err (WrongLength place)) = ⊥
+KeysMeans k f coin signal (Err (SumTooLarge place)) = ⊥
+KeysMeans k f coin signal (Err (SourceSpent place)) = ⊥

@@ -1,6 +1,6 @@
 // How a signal divides the residues of a profile between the two key bits.
 ghost use Rattle.std.specs.Prelude.{◌≡◌, ◌-◌, ◌^◌};
-ghost use Rattle.survey.specs.Surveys.{keys_answer};
+ghost use Rattle.survey.specs.Surveys.{KeysMeans, keys_answer};
 
 use profile::Profile;
 use ring::Fault;
@@ -28,7 +28,8 @@ pub fn last_signal<P: Profile>() -> u32
 // How many residues a coin gives this signal with key bit 0, and how many with key bit 1.
 #[tactic(auto, using(crate::proofs::Measures::count_more))]
 pub fn count_keys<P: Profile>(coin: u8, signal: u32) -> Result<KeyCounts, Fault>
-    ensures { result ≡ keys_answer P.NUMBERS P.functions coin signal }
+    ensures answer { result ≡ keys_answer P.NUMBERS P.functions coin signal }
+    ensures means { KeysMeans P.NUMBERS P.functions coin signal result }
 {
     if signal > last_signal::<P>() {
         return Err(Fault::OutOfRange(0));
