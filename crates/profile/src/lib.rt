@@ -1,4 +1,5 @@
-// What a profile is: its numbers, its functions and its laws; and where a secret of it is held.
+// What a profile is: its numbers, its functions, its laws and its modulus; where a secret of it is held; and how many errors
+// and coins are in range.
 #![tactic(auto)]
 
 mod bounds;
