@@ -2,8 +2,8 @@
 use crate::parts::{ANSWER, CONFIRMATION, OFFER, SEED};
 use house::{House, S, T, W};
 use message::{
-    Answer, Confirmation, Offer, Section, read_answer, read_confirmation, read_offer, signals_width,
-    values_width,
+    Answer, Confirmation, Offer, Section, read_answer, read_confirmation, read_offer,
+    signals_width, values_width,
 };
 use packing::Width;
 use profile::Profile;
