@@ -1,5 +1,5 @@
 // Where a secret is held.
-ghost use Rattle.std.specs.Prelude.{◌≡◌, List, ℤ, IfOk, Some, None, Option, MatchOption};
+ghost use Rattle.std.specs.Prelude.{◌≡◌, List, length, ℤ, IfOk, Some, None, Option, MatchOption};
 ghost use Rattle.ring.specs.Faults.{after};
 ghost use Rattle.profile.specs.Secrets.{LawfulSecret, FillRefusesTheFirst, UnfilledOrLawful, fill_answer, shown, zeros};
 ghost use Rattle.profile.specs.declared.bounds.Bounds.{Bounds};
@@ -41,7 +41,8 @@ pub trait SecretPlace: Drop {
 
     // The memory itself, n words, filled or not.
     fn words(&self) -> &[i32]
-        ensures { result.now ≡ memory self.now };
+        ensures shows { result.now ≡ memory self.now }
+        ensures long { length result.now ≡ bounds.n };
 
     // Uses the secret up: the place is unfilled from here on, and its memory zero.
     fn erase(&mut self)
