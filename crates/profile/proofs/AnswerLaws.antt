@@ -1,5 +1,5 @@
 -- What the answers of a profile's functions mean, and that what is in range is accepted.
-use Rattle.std.proofs.Common.{inl, inr, ◌≡◌, ℕ, ◌+◌, ◌^◌, ◌<◌, ◌≤◌, ltb, leb, Ok, refl, ◌∙◌, arith}
+use Rattle.std.proofs.Common.{inl, inr, ℕ, ◌+◌, ◌^◌, ltb, leb, refl, ◌∙◌, arith}
 use Rattle.std.proofs.lemmas.Bool.{cond-true, cond_both, lt-ltb, le-leb, ltb-true, ltb-false, leb-true, leb-false}
 use Rattle.profile.specs.AnswerLaws.{NumberMeans, ReconcileMeans, ReadMeans, FunctionLaws, FunctionsRefuseTheFirst}
 use Rattle.profile.specs.Answers.{round_answer, recover_answer, reconcile_answer, read_answer}

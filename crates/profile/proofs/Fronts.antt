@@ -1,9 +1,9 @@
 -- How far a list keeps within a bound: one step of the running sum, what a front that is the whole list says, and what one that ends before it.
-use Rattle.std.proofs.Common.{inl, inr, ◌≡◌, ℕ, suc, ◌+◌, ◌<◌, ◌≤◌, eqb, leb, List, [], ◌∷◌, length, get_or, take, drop, ℤ, pos, nat_abs, sum_by, sym, refl, ◌∙◌, subst, ⊎_elim, add-one, one-add, arith}
+use Rattle.std.proofs.Common.{inl, inr, Ok, ◌≡◌, ℕ, suc, ◌+◌, ◌<◌, ◌≤◌, eqb, leb, List, [], ◌∷◌, length, get_or, take, drop, ℤ, pos, nat_abs, sum_by, sym, refl, ◌∙◌, subst, ⊎_elim, add-one, one-add, arith}
 use Rattle.std.specs.Prelude.{All}
 use Rattle.std.proofs.lemmas.List.{at_drop_more, at_drop_all}
 use Rattle.std.proofs.lemmas.List.Sums.{sum_by-cons, prefix_len_stops}
-use Rattle.std.proofs.lemmas.Bool.{cases_Bool, cases_lt, cond-true, cond-false, cond_both, le-leb, lt-leb, leb-true, leb-false, eqb-true, eqb-false}
+use Rattle.std.proofs.lemmas.Bool.{cases_Bool, cases_lt, cond-true, cond-false, cond_both, eq-eqb, le-leb, lt-leb, leb-true, leb-false, eqb-true, eqb-false}
 use Rattle.profile.specs.declared.bounds.Bounds.{Bounds}
 use Rattle.ring.proofs.Elements.{whole_passes, front_passes, whole_front, whole_or_first}
 use Rattle.profile.specs.Secrets.{FillMeans, FirstBeyond, IsFrontSumming, IsFrontWithin, FirstPast, LawfulSecret, fill_answer, front_within, front_summing}
@@ -118,3 +118,19 @@ fill_means b xs =
     (λ past. (long, all_within b.e xs (omega (arith, leb-true _ _ inside)), summing_first b.l xs (omega (arith, leb-false _ _ past)))))
     (λ beyond. (long, within_first b.e xs (omega (arith, leb-false _ _ beyond)))))
     (λ other. (eqb-false _ _ other, refl))
+
+-- ---- what is accepted
+
+summing_reaches : (sum l : ℕ) (xs : List ℤ) → sum + sum_by nat_abs xs ≤ l → length xs ≤ front_summing sum l xs
+summing_reaches sum l [] h = omega arith
+summing_reaches sum l (x ∷ xs) h =
+    let s = sum + nat_abs x in
+    let rest : s + sum_by nat_abs xs ≤ l = omega (arith, sum_by-cons nat_abs x xs) in
+    let fits : s ≤ l = omega arith in
+    omega (arith, summing_reaches s l xs rest, cond-true (leb s l) (1 + front_summing s l xs) 0 (le-leb s l fits))
+
+pub lawful_fills : (b : Bounds) (xs : List ℤ) → LawfulSecret b xs → fill_answer b xs ≡ Ok tt
+lawful_fills b xs lawful =
+    cond-true _ _ _ (eq-eqb (length xs) b.n lawful.long)
+    ∙ cond-true _ _ _ (le-leb b.n (front_within b.e xs) (omega (arith, lawful.long, front_within_reaches b.e xs lawful.small)))
+    ∙ cond-true _ _ _ (le-leb b.n (front_summing 0 b.l xs) (omega (arith, lawful.long, summing_reaches 0 b.l xs (omega (arith, lawful.light)))))

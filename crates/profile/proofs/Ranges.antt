@@ -1,5 +1,5 @@
 -- Bounds that generic code has from the laws of a profile.
-use Rattle.std.proofs.Common.{ℕ, ◌+◌, ◌*◌, ◌^◌, ◌<◌, ◌≤◌, ⊎_elim, arith, pow_mono}
+use Rattle.std.proofs.Common.{◌+◌, ◌*◌, ◌^◌, ◌<◌, ◌≤◌, ⊎_elim, arith, pow_mono}
 use Rattle.std.proofs.lemmas.Nat.{mul-le}
 use Rattle.profile.specs.Laws.{Functions, InRange, Lawful}
 use Rattle.profile.specs.declared.numbers.Numbers.{Numbers}

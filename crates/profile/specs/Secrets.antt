@@ -68,6 +68,10 @@ FillMeans b xs (Err (SourceSpent i)) = ⊥
 abbrev pub FillRefusesTheFirst : Type 0
 FillRefusesTheFirst = (b : Bounds) (xs : List ℤ) → FillMeans b xs (fill_answer b xs)
 
+-- and every lawful secret is accepted
+abbrev pub FillAcceptsTheLawful : Type 0
+FillAcceptsTheLawful = (b : Bounds) (xs : List ℤ) → LawfulSecret b xs → fill_answer b xs ≡ Ok tt
+
 -- what an optional slice shows
 abbrev pub shown : Option (Bor (List ℤ)) → Option (List ℤ)
 shown (Some r) = Some r.now

@@ -1,7 +1,7 @@
 // Where a secret is held.
 ghost use Rattle.std.specs.Prelude.{◌≡◌, List, length, ℤ, IfOk, Some, None, Option, MatchOption};
 ghost use Rattle.ring.specs.Faults.{after};
-ghost use Rattle.profile.specs.Secrets.{LawfulSecret, FillRefusesTheFirst, UnfilledOrLawful, fill_answer, shown, zeros};
+ghost use Rattle.profile.specs.Secrets.{LawfulSecret, FillAcceptsTheLawful, FillRefusesTheFirst, UnfilledOrLawful, fill_answer, shown, zeros};
 ghost use Rattle.profile.specs.declared.bounds.Bounds.{Bounds};
 
 use ring::Fault;
@@ -54,5 +54,6 @@ pub trait SecretPlace: Drop {
 
 // Filling accepts exactly the lawful secrets, and refuses any other list at the first place where it is not one.
 pub fn fill_refuses_the_first()
-    ensures { FillRefusesTheFirst }
+    ensures refuses { FillRefusesTheFirst }
+    ensures accepts { FillAcceptsTheLawful }
 {}

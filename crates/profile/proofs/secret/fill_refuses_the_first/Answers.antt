@@ -1,5 +1,5 @@
-use Rattle.profile.proofs.Fronts.{fill_means}
+use Rattle.profile.proofs.Fronts.{fill_means, lawful_fills}
 use Rattle.profile.proofs.secret.fill_refuses_the_first.Goals as goal
 
 pub returns : goal.returns
-returns c = fill_means
+returns c = record { refuses = fill_means; accepts = lawful_fills }
