@@ -1,5 +1,5 @@
 -- What the exported functions that read messages answer and leave.
-use Rattle.std.specs.Prelude.{ℕ, ◌==◌, List, [], length, Ok, Err, Result}
+use Rattle.std.specs.Prelude.{ℕ, ◌==◌, List, [], length, Ok, Result}
 use Rattle.ring.specs.Faults.{after_part, checked, followed, passed_up, told}
 use Rattle.ring.specs.declared.fault.Fault.{Fault}
 use Rattle.ring.specs.declared.fault.Fault.TheVariants.{WrongLength}
