@@ -16,7 +16,8 @@ macro_rules! by_index {
     };
 }
 
-// A call with a profile for its `P`: of a function of the profile, or of a function or a method that is generic over a profile.
+// A call with a profile for its `P`: of a function of the profile, or of a function or a method that is generic
+// over a profile.
 macro_rules! with {
     ($profile:ty, P::$($call:tt)*) => { <$profile>::$($call)* };
     ($profile:ty, $function:ident::<P, $($call:tt)*) => { $function::<$profile, $($call)* };

@@ -4,8 +4,8 @@ ghost use Rattle.exports.specs.Elements.{Multiplied};
 use crate::codes::{Coded, NO_CALL};
 use multiplier::{Multiplier, QuotientRing, RowSum, Schoolbook};
 
-// Multiplies in the ring of degree n and modulus q, if there is such a ring: by the schoolbook if `row_sum` is 0, and else
-// by the row sum.
+// Multiplies in the ring of degree n and modulus q, if there is such a ring: by the schoolbook if `row_sum` is 0,
+// and else by the row sum.
 pub fn exported_multiply(
     row_sum: u8,
     n: usize,

@@ -1,12 +1,14 @@
-// Messages read back, and unpacked into buffers. Each section of an accepted message is as long as its part asks, so that no
-// step after reading can refuse.
+// Messages read back, and unpacked into buffers. Each section of an accepted message is as long as its part
+// asks, so that no step after reading can refuse.
 ghost use Rattle.std.specs.Prelude.{◌≡◌, ◌==◌, length};
 ghost use Rattle.ring.specs.Faults.{after_part};
 ghost use Rattle.exports.specs.Codes.{no_call};
 ghost use Rattle.exports.specs.Writing.{if_seed};
-ghost use Rattle.exports.specs.Reading.{room_answer, offer_read, answer_read, confirmation_read, round_told, seed_of, values_of, signals_of};
+ghost use Rattle.exports.specs.Reading.{room_answer, offer_read, answer_read, confirmation_read};
+ghost use Rattle.exports.specs.Reading.{round_told, seed_of, values_of, signals_of};
 ghost use Rattle.exports.specs.Reading.{read_offer_code, read_offer_seed, read_offer_values};
-ghost use Rattle.exports.specs.Reading.{read_answer_code, read_answer_values, read_answer_signals, read_confirmation_code};
+ghost use Rattle.exports.specs.Reading.{read_answer_code, read_answer_values, read_answer_signals};
+ghost use Rattle.exports.specs.Reading.{read_confirmation_code};
 
 use crate::by_index::by_index;
 use crate::codes::{Coded, NO_CALL};

@@ -10,7 +10,8 @@ ghost use Rattle.exports.specs.Elements.{derive_seed_code, derive_seed_output};
 ghost use Rattle.exports.specs.Writing.{if_seed, write_code, write_output};
 ghost use Rattle.exports.specs.Packed.{pack_code, pack_output, unpack_code, unpack_numbers};
 ghost use Rattle.exports.specs.Reading.{read_offer_code, read_offer_seed, read_offer_values};
-ghost use Rattle.exports.specs.Reading.{read_answer_code, read_answer_values, read_answer_signals, read_confirmation_code};
+ghost use Rattle.exports.specs.Reading.{read_answer_code, read_answer_values, read_answer_signals};
+ghost use Rattle.exports.specs.Reading.{read_confirmation_code};
 ghost use Rattle.exports.specs.Profiles.{round_code, recover_code, reconcile_code, read_code};
 
 #[unsafe(no_mangle)]

@@ -27,7 +27,8 @@ impl<'a> Factors<'a> {
     ) -> Result<Self, Fault>
         ensures answer { MatchResult result
             (λ _. Ok tt ≡ multiply_answer ring.degree ring.modulus.q need left.now right.now scratch output)
-            (λ fault. Err fault ≡ multiply_answer ring.degree ring.modulus.q need left.now right.now scratch output) }
+            (λ fault. Err fault
+            ≡ multiply_answer ring.degree ring.modulus.q need left.now right.now scratch output) }
         ensures same_left { IfOk result (λ factors. factors.left.now ≡ left.now) }
         ensures same_right { IfOk result (λ factors. factors.right.now ≡ right.now) }
         ensures same_modulus { IfOk result (λ factors. factors.modulus ≡ ring.modulus) }

@@ -1,5 +1,6 @@
 // The row sum: for each left coefficient a multiple of a row of the right list.
-ghost use Rattle.std.specs.Prelude.{◌≡◌, ℕ, ◌+◌, ◌*◌, ◌%◌, ◌^◌, ◌<◌, ◌≤◌, ◌++◌, map, length, slice_index};
+ghost use Rattle.std.specs.Prelude.{◌≡◌, ℕ, ◌+◌, ◌*◌, ◌%◌, ◌^◌, ◌<◌, ◌≤◌};
+ghost use Rattle.std.specs.Prelude.{◌++◌, map, length, slice_index};
 ghost use Rattle.multiplier.specs.Methods.{product_of, row_sum};
 ghost use Rattle.multiplier.specs.Sums.{negated};
 
@@ -37,7 +38,8 @@ impl<'a> Rows<'a> {
     fn from_factors(factors: Factors<'a>, words: &'a mut [u32]) -> Self
         requires { length words.old ≡ 2 * length factors.left.now }
         ensures left { result.left.now ≡ factors.entry.left.now }
-        ensures words { result.words.now ≡ map (negated factors.entry.modulus.q) factors.entry.right.now ++ factors.entry.right.now }
+        ensures words { let right = factors.entry.right.now in
+            result.words.now ≡ map (negated factors.entry.modulus.q) right ++ right }
         ensures modulus { result.modulus ≡ factors.entry.modulus }
     {
         let Factors {

@@ -22,7 +22,8 @@ pub fn rewrite_offer<P: Profile>(
     parts: Offer<'_>,
     message: &[u8],
 ) -> Result<(), Failure>
-    ensures { OnOk result (encoded P.NUMBERS (offer parts.entry.round parts.entry.seed.now parts.entry.values.now) ≡ message.now) }
+    ensures { let o = parts.entry in
+        OnOk result (encoded P.NUMBERS (offer o.round o.seed.now o.values.now) ≡ message.now) }
 {
     let mut written = vec![in alloc; 0u8; message.len()]?;
     parts.write::<P>(&mut written)?;
@@ -34,7 +35,8 @@ pub fn rewrite_answer<P: Profile>(
     parts: Answer<'_>,
     message: &[u8],
 ) -> Result<(), Failure>
-    ensures { OnOk result (encoded P.NUMBERS (answer parts.entry.round parts.entry.values.now parts.entry.signals.now) ≡ message.now) }
+    ensures { let a = parts.entry in
+        OnOk result (encoded P.NUMBERS (answer a.round a.values.now a.signals.now) ≡ message.now) }
 {
     let mut written = vec![in alloc; 0u8; message.len()]?;
     parts.write::<P>(&mut written)?;

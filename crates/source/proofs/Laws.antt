@@ -10,7 +10,7 @@ use Rattle.ring.specs.Elements.{AllBelow, IsElement}
 use Rattle.ring.specs.Faults.{after}
 use Rattle.ring.specs.declared.fault.Fault.{Fault}
 use Rattle.source.specs.Derivation.{bits, bytes_for, groups, candidates, kept, derived, derive_answer}
-use Rattle.source.specs.Laws.{DeriveMeans}
+use Rattle.source.specs.Laws.{DerivationLaws, DeriveMeans}
 use Rattle.source.proofs.Groups.{groups_none, groups_more}
 use Rattle.source.proofs.Keeping.{bits_some}
 
@@ -81,3 +81,6 @@ derived_stable n q bytes more places least accepted =
     let element = (subst (DeriveMeans n q bytes places) accepted (derive_means n q bytes places)).1 in
     let enough : n ≤ length (kept q bytes) = omega (arith, element.long, length-take n (kept q bytes)) in
     ap (take n) after.1 ∙ take-append-le n (kept q bytes) after.0 enough
+
+pub derivation_laws : DerivationLaws
+derivation_laws = record { means = derive_means; accepts = enough_is_accepted; stable = derived_stable }

@@ -29,6 +29,7 @@ pub fn derive<P: Profile, S: ByteSource>(
         DeriveMeans P.NUMBERS.n P.NUMBERS.q bytes (length output.old) result }
     ensures element { OnOk result (IsElement P.NUMBERS.n P.NUMBERS.q output.new) }
     ensures same_meaning { S.meaning source.new ≡ S.meaning source.old }
+    ensures reads { length output.old ≡ P.NUMBERS.n → S.reading source.new ≡ S.meaning source.old seed.now }
     ensures untouched { result ≡ Err (WrongLength 4) → source.new ≡ source.old }
 {
     if output.len() != P::NUMBERS.n {

@@ -37,6 +37,7 @@ impl Sampler {
     // The next number that is kept, or nothing once the list is used up.
     fn next<S: ByteSource>(self, source: &mut S) -> Option<u32>
         ensures same_meaning { S.meaning source.new ≡ S.meaning source.old }
+        ensures same_list { S.reading source.new ≡ S.reading source.old }
         ensures gives { let all = kept self.modulus.q (ahead S.ByteSource source.old) in
             MatchOption result (all ≡ []) (λ x. all ≡ x ∷ kept self.modulus.q (ahead S.ByteSource source.new)) }
     {
@@ -52,6 +53,7 @@ impl Sampler {
     // Fills `numbers` with the first ones that the list ahead gives, or says how many it gives.
     fn fill<S: ByteSource>(self, source: &mut S, numbers: &mut [u32]) -> Result<(), Fault>
         ensures same_meaning { S.meaning source.new ≡ S.meaning source.old }
+        ensures same_list { S.reading source.new ≡ S.reading source.old }
         ensures answer { let all = kept self.modulus.q (ahead S.ByteSource source.old) in
             result ≡ keep_answer (length numbers.old) all }
         ensures fills { let bytes = ahead S.ByteSource source.old in
@@ -72,6 +74,7 @@ impl Sampler {
     ) -> Result<(), Fault>
         requires { length output.old ≤ length room.old }
         ensures same_meaning { S.meaning source.new ≡ S.meaning source.old }
+        ensures same_list { S.reading source.new ≡ S.reading source.old }
         ensures answer { let all = kept self.modulus.q (ahead S.ByteSource source.old) in
             result ≡ keep_answer (length output.old) all }
         ensures fills { let bytes = ahead S.ByteSource source.old in

@@ -9,8 +9,8 @@ use std::snapshot::Snapshot;
 // The blocks of a stream.
 const BLOCKS: usize = 24;
 
-// What a seed gives. `left` blocks are still to be squeezed, and of the last one that was squeezed the bytes from `offset` on
-// are still to be given. Only clauses read `seed`.
+// What a seed gives. `left` blocks are still to be squeezed, and of the last one that was squeezed the bytes from
+// `offset` on are still to be given. Only clauses read `seed`.
 #[derive(Drop)]
 pub(crate) struct Stream {
     seed: Snapshot<[u8; 16]>,

@@ -3,7 +3,7 @@ ghost use Rattle.source.specs.Laws.{DerivationLaws, DerivationValues};
 
 // An element has n numbers, each below q, and more bytes than suffice change nothing. A refusal says why there is no
 // element, and what suffices is not refused.
-#[tactic(auto, using(crate::proofs::Laws::derive_means, crate::proofs::Laws::enough_is_accepted, crate::proofs::Laws::derived_stable))]
+#[tactic(auto, using(crate::proofs::Laws::derivation_laws))]
 pub fn derivation_laws()
     ensures { DerivationLaws }
 {}

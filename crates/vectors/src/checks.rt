@@ -123,14 +123,16 @@ fn check_product(alloc: Global, numbers: &[u32]) -> anyhow::Result<bool>
 // Whether a seed gives an element, which the output then holds.
 #[tactic(auto, using(std::proofs::lemmas::Bool::Decides::nat_tests))]
 fn derives(profile: u8, seed: &[u8], output: &mut [u32]) -> bool
-    ensures { result ≡ true → output.new ≡ by_profile (λ k _. derived k.n k.q (shake128 seed.now 4032)) [] profile }
+    ensures { let element = by_profile (λ k _. derived k.n k.q (shake128 seed.now 4032)) [] profile in
+        result ≡ true → output.new ≡ element }
 {
     exported_derive_shake(profile, seed, output) == DONE
 }
 
 // Whether a seed gives the expected element.
 fn derives_to(profile: u8, seed: &[u8], expected: &[u32], output: &mut [u32]) -> bool
-    ensures { result ≡ true → by_profile (λ k _. derived k.n k.q (shake128 seed.now 4032)) [] profile ≡ expected.now }
+    ensures { let element = by_profile (λ k _. derived k.n k.q (shake128 seed.now 4032)) [] profile in
+        result ≡ true → element ≡ expected.now }
 {
     derives(profile, seed, output) && &output[..] == expected
 }

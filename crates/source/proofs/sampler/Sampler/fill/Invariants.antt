@@ -9,5 +9,6 @@ invariant-loop-count g l =
     let s = g.S.ByteSource in
     record {
       same_meaning : s.meaning l.source ≡ s.meaning l.initial.source;
+      same_list : s.reading l.source ≡ s.reading l.initial.source;
       so_far : take l.count l.numbers ++ kept l.self.modulus.q (ahead s l.source) ≡ kept l.self.modulus.q (ahead s l.initial.source);
     }

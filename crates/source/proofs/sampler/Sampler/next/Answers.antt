@@ -17,5 +17,6 @@ loop-number-preserved g c =
     let f = c.in_ok-next_number.ensures in
     record {
       same_meaning = f.same_meaning ∙ inv.same_meaning;
+      same_list = f.reads ∙ inv.same_list;
       keeps = sym (kept_no c.args.self _ _ _ f.gives _ c.low_bits-number.ensures (omega (arith, c.if-number-q.false, c.value-q.ensures))) ∙ inv.keeps;
     }

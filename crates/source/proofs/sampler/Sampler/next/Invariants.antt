@@ -9,6 +9,7 @@ invariant-loop-number g l =
     let s = g.S.ByteSource in
     record {
       same_meaning : s.meaning l.source ≡ s.meaning l.initial.source;
+      same_list : s.reading l.source ≡ s.reading l.initial.source;
       keeps : kept l.self.modulus.q (ahead s l.source) ≡ kept l.self.modulus.q (ahead s l.initial.source);
     }
 
