@@ -1,12 +1,13 @@
-// Derived elements.
+//! Derived elements.
+
 use house::{House, S, T, W};
 use profile::Profile;
 use reconcile::{Ding, Okcn};
 use ring::Fault;
-use source::{Tape, bit_count, derive};
+use byte_source::{Tape, bit_count, derive};
 use std::process::Abort;
 
-// 511 is dropped; 100, 200, 5 and 0 are kept.
+/// 511 is dropped; 100, 200, 5 and 0 are kept.
 const TAPE: [u8; 10] = [0xff, 0xff, 0x64, 0x00, 0xc8, 0x00, 0x05, 0x00, 0x00, 0x00];
 
 fn derive_by<P: Profile>(tape: &[u8], output: &mut [u32]) -> Result<(), Fault> {
@@ -22,7 +23,7 @@ fn worked_element(rt: HostRuntime) {
     assert_eq!(rt; output, [100, 200, 5, 0]);
 }
 
-// A refusal leaves the output as it was.
+/// A refusal leaves the output as it was.
 fn refuses<P: Profile>(rt: &impl Abort, tape: &[u8], places: usize, fault: Fault) {
     let mut output = [9; 5];
     assert!(rt; places <= 5);
@@ -44,7 +45,7 @@ fn lengths_come_before_the_source(rt: HostRuntime) {
     refuses::<House<S, Ding>>(&rt, &TAPE, 4, Fault::WrongLength(4));
 }
 
-// In groups of three bytes at W: the high bit of 24 is not looked at, q - 1 is kept and q is dropped.
+/// In groups of three bytes at W: the high bit of 24 is not looked at, q - 1 is kept and q is dropped.
 #[test]
 fn groups_of_three_bytes(rt: HostRuntime) {
     let mut output = [9; 256];

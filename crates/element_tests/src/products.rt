@@ -1,4 +1,5 @@
-// Rings and products.
+//! Rings and products.
+
 use multiplier::{Multiplier, QuotientRing, RowSum, Schoolbook};
 use ring::Fault;
 use std::process::Abort;
@@ -17,7 +18,7 @@ fn rings_at_the_edges(rt: HostRuntime) {
     }
 }
 
-// x^4 is -1: the 4 comes round as 253, whatever the output held.
+/// x^4 is -1: the 4 comes round as 253, whatever the output held.
 fn turns_by_x<M: Multiplier>(rt: &impl Abort, multiplier: &mut M) {
     let mut scratch = [9; 11];
     let mut output = [9; 4];
@@ -37,7 +38,7 @@ fn worked_product(rt: HostRuntime) -> Result<(), Fail> {
     Ok(())
 }
 
-// The largest sums there are: each number is -1, so the coefficient k is k + 1 products of 1 less n - 1 - k of them.
+/// The largest sums there are: each number is -1, so the coefficient k is k + 1 products of 1 less n - 1 - k of them.
 fn multiplies_the_largest<M: Multiplier>(rt: &impl Abort, multiplier: &mut M) {
     let q: u32 = 8388607;
     let largest = [q - 1; 1024];
@@ -61,7 +62,7 @@ fn largest_numbers_of_the_largest_ring(rt: HostRuntime) -> Result<(), Fail> {
     Ok(())
 }
 
-// A refusal leaves the output as it was, and scratch at zero.
+/// A refusal leaves the output as it was, and scratch at zero.
 fn refuses<M: Multiplier>(
     rt: &impl Abort,
     multiplier: &mut M,

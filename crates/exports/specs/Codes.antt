@@ -23,28 +23,28 @@ refusal_code (Ring fault) = fault_code fault
 refusal_code (Message fault) = message_fault_code fault
 
 -- what is accepted by its own code, and else the fault by its
-abbrev pub answer_code : {X F : Type 0} → (X → ℕ) → (F → ℕ) → Result X F → ℕ
-answer_code code fault_of (Ok accepted) = code accepted
-answer_code code fault_of (Err fault) = fault_of fault
+abbrev pub outcome_code : {X F : Type 0} → (X → ℕ) → (F → ℕ) → Result X F → ℕ
+outcome_code code fault_of (Ok accepted) = code accepted
+outcome_code code fault_of (Err fault) = fault_of fault
 
 -- an accepted value as itself
 abbrev pub value_code : Result ℕ Fault → ℕ
-value_code answer = answer_code (λ value. value) fault_code answer
+value_code outcome = outcome_code (λ value. value) fault_code outcome
 
 -- a signal and a key bit
 abbrev pub pair_number : ℕ × ℕ → ℕ
 pair_number pair = 2 * pair.0 + pair.1
 
 abbrev pub pair_code : Result (ℕ × ℕ) Fault → ℕ
-pair_code answer = answer_code pair_number fault_code answer
+pair_code outcome = outcome_code pair_number fault_code outcome
 
 -- an acceptance without a value
 abbrev pub done_code : Result (Unit {0}) Fault → ℕ
-done_code answer = answer_code (λ _. 0) fault_code answer
+done_code outcome = outcome_code (λ _. 0) fault_code outcome
 
 -- the round of a message that is accepted
 abbrev pub reading_code : Result ℕ Refusal → ℕ
-reading_code answer = answer_code (λ round. round) refusal_code answer
+reading_code outcome = outcome_code (λ round. round) refusal_code outcome
 
 -- where no call can be made
 abbrev pub no_call : ℕ

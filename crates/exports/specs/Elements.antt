@@ -5,10 +5,10 @@ use Rattle.ring.specs.Residues.{IsModulus}
 use Rattle.ring.specs.Scratch.{zeroed}
 use Rattle.ring.specs.declared.fault.Fault.{Fault}
 use Rattle.element.specs.Products.{product}
-use Rattle.multiplier.specs.Multipliers.{IsDegree, multiply_answer}
+use Rattle.multiplier.specs.Multipliers.{IsDegree, multiply_outcome}
 use Rattle.keccak.specs.Sponge.{shake128}
 use Rattle.profile.specs.declared.numbers.Numbers.{Numbers}
-use Rattle.source.specs.Derivation.{derived, derive_answer}
+use Rattle.byte_source.specs.Derivation.{derived, derive_outcome}
 use Rattle.exports.specs.ByProfile.{by_profile}
 use Rattle.exports.specs.Codes.{done_code, no_call}
 
@@ -17,18 +17,18 @@ abbrev pub need_of : (row_sum n : ℕ) → ℕ
 need_of row_sum n = if row_sum == 0 then 0 else 2 * n
 
 module _ (row_sum n q : ℕ) (left right scratch scratch_after output output_after : List ℕ) (code : ℕ) where
-  abbrev answer : Result (Unit {0}) Fault
-  answer = multiply_answer n q (need_of row_sum n) left right (length scratch) (length output)
+  abbrev outcome : Result (Unit {0}) Fault
+  outcome = multiply_outcome n q (need_of row_sum n) left right (length scratch) (length output)
 
   -- a product in a ring that there is
   pub record Called : Type 0 where
-    pub answers : code ≡ done_code answer
-    pub writes : output_after ≡ after answer (product n q left right) output
+    pub code_is : code ≡ done_code outcome
+    pub writes : output_after ≡ after outcome (product n q left right) output
     pub clears : scratch_after ≡ zeroed scratch
 
   -- no ring, no call
   pub record NotCalled : Type 0 where
-    pub answers : code ≡ no_call
+    pub code_is : code ≡ no_call
     pub same_output : output_after ≡ output
     pub same_scratch : scratch_after ≡ scratch
 
@@ -40,10 +40,10 @@ module _ (row_sum n q : ℕ) (left right scratch scratch_after output output_aft
 
 -- what deriving from a list of bytes answers, and what the output then holds
 abbrev pub derive_code : Numbers → List ℕ → List ℕ → ℕ
-derive_code k bytes output = done_code (derive_answer k.n k.q bytes (length output))
+derive_code k bytes output = done_code (derive_outcome k.n k.q bytes (length output))
 
 abbrev pub derive_output : Numbers → List ℕ → List ℕ → List ℕ
-derive_output k bytes output = after (derive_answer k.n k.q bytes (length output)) (derived k.n k.q bytes) output
+derive_output k bytes output = after (derive_outcome k.n k.q bytes (length output)) (derived k.n k.q bytes) output
 
 -- the same from a tape, for the profile of an index
 abbrev pub derive_tape_code : ℕ → List ℕ → List ℕ → ℕ

@@ -16,12 +16,12 @@ use Rattle.exports.specs.Codes.{reading_code, no_call}
 -- ---- what reading gives, with a profile's numbers
 
 -- that a buffer, which is that argument of a call, has room for n numbers and no more
-abbrev pub room_answer : Numbers → (argument room : ℕ) → Result (Unit {0}) Fault
-room_answer k argument room = checked (room == k.n) (WrongLength argument) (Ok tt)
+abbrev pub room_outcome : Numbers → (argument room : ℕ) → Result (Unit {0}) Fault
+room_outcome k argument room = checked (room == k.n) (WrongLength argument) (Ok tt)
 
 -- that test's answer and a message's, as answers that may refuse for either
 abbrev pub room_checked : Numbers → (argument room : ℕ) → Result (Unit {0}) Refusal
-room_checked k argument room = passed_up refusals.Ring (room_answer k argument room)
+room_checked k argument room = passed_up refusals.Ring (room_outcome k argument room)
 
 abbrev pub message_read : Numbers → Kind → (message : List ℕ) → Result Message Refusal
 message_read k kind message = passed_up refusals.Message (reading k kind message)

@@ -1,4 +1,4 @@
-// The house profiles by an index.
+//! The house profiles by an index.
 
 // The code that a call has with the profile of the index for `P`, or NO_CALL where there is no such profile:
 // 0 T Ding, 1 T OKCN, 2 S Ding, 3 S OKCN, 4 W Ding, 5 W OKCN.

@@ -1,18 +1,19 @@
-// How an answer is told in one number of 64 bits.
+//! How an answer is told in one number of 64 bits.
+
 ghost use Rattle.std.specs.Prelude.{◌≡◌, ℕ};
-ghost use Rattle.exports.specs.Codes.{answer_code, code_of, fault_code, message_fault_code, pair_number, refusal_code};
+ghost use Rattle.exports.specs.Codes.{outcome_code, code_of, fault_code, message_fault_code, pair_number, refusal_code};
 
 use crate::refusal::Refusal;
 
-// The answer where no call can be made: for a profile, a ring, a width or a seed that there is not.
+/// The answer where no call can be made: for a profile, a ring, a width or a seed that there is not.
 pub(crate) const NO_CALL: u64 = 1 << 63;
 
-// The answer to what is accepted and gives no value.
+/// The answer to what is accepted and gives no value.
 pub const DONE: u64 = 0;
 
 const LARGEST_PLACE: u64 = (1 << 56) - 1;
 
-// What one number of 64 bits can tell.
+/// What one number of 64 bits can tell.
 pub(crate) trait Coded {
     ghost code: { Self → ℕ };
 
@@ -46,7 +47,7 @@ impl Coded for (u32, u32) {
     }
 }
 
-// A fault's number, from bit 56 on, and its place below.
+/// A fault's number, from bit 56 on, and its place below.
 fn code_of(number: u8, place: usize) -> u64
     ensures { result ≡ code_of number place }
 {
@@ -82,7 +83,7 @@ impl Coded for Refusal {
 }
 
 impl<A: Coded, F: Coded> Coded for Result<A, F> {
-    ghost code = { answer_code A.code F.code };
+    ghost code = { outcome_code A.code F.code };
 
     fn code(self) -> u64 {
         match self {

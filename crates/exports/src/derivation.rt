@@ -1,15 +1,16 @@
-// Derived elements of the house profiles, and SHAKE128.
+//! Derived elements of the house profiles, and SHAKE128.
+
 ghost use Rattle.std.specs.Prelude.{◌≡◌, [], length};
 ghost use Rattle.keccak.specs.Sponge.{shake128 as shake128_of};
-ghost use Rattle.source.specs.Tapes.{tape_meaning};
+ghost use Rattle.byte_source.specs.Tapes.{tape_meaning};
 ghost use Rattle.exports.specs.Elements.{derive_tape_code, derive_tape_output, derive_seed_code, derive_seed_output};
 
 use crate::by_index::by_index;
 use crate::codes::{Coded, NO_CALL};
 use keccak::shake128;
-use source::{ShakeSource, Tape, derive};
+use byte_source::{ShakeSource, Tape, derive};
 
-// A source of the tape's bytes, which it gives for every seed; clauses ask it for those of the empty one.
+/// A source of the tape's bytes, which it gives for every seed; clauses ask it for those of the empty one.
 fn tape_source(tape: &[u8]) -> Tape<'_>
     ensures { tape_meaning result [] ≡ tape.now }
 {
@@ -17,16 +18,16 @@ fn tape_source(tape: &[u8]) -> Tape<'_>
 }
 
 pub fn exported_derive_tape(profile: u8, tape: &[u8], output: &mut [u32]) -> u64
-    ensures answers { result ≡ derive_tape_code profile tape.now output.old }
+    ensures code { result ≡ derive_tape_code profile tape.now output.old }
     ensures writes { output.new ≡ derive_tape_output profile tape.now output.old }
 {
     let source = &mut tape_source(tape);
     by_index!(profile, derive::<P, _>(source, &[0; 16], output).code())
 }
 
-// By SHAKE128 of a seed, if it has 16 bytes.
+/// By SHAKE128 of a seed, if it has 16 bytes.
 pub fn exported_derive_shake(profile: u8, seed: &[u8], output: &mut [u32]) -> u64
-    ensures answers { result ≡ derive_seed_code profile seed.now output.old }
+    ensures code { result ≡ derive_seed_code profile seed.now output.old }
     ensures writes { output.new ≡ derive_seed_output profile seed.now output.old }
 {
     let Ok(seed) = <[u8; 16]>::try_from(seed) else {

@@ -1,11 +1,12 @@
-// Products of elements.
+//! Products of elements.
+
 ghost use Rattle.exports.specs.Elements.{Multiplied};
 
 use crate::codes::{Coded, NO_CALL};
 use multiplier::{Multiplier, QuotientRing, RowSum, Schoolbook};
 
-// Multiplies in the ring of degree n and modulus q, if there is such a ring: by the schoolbook if `row_sum` is 0,
-// and else by the row sum.
+/// Multiplies in the ring of degree n and modulus q, if there is such a ring: by the schoolbook if `row_sum` is 0,
+/// and else by the row sum.
 pub fn exported_multiply(
     row_sum: u8,
     n: usize,
@@ -20,10 +21,10 @@ pub fn exported_multiply(
     let Some(ring) = QuotientRing::new(n, q) else {
         return NO_CALL;
     };
-    let answer = if row_sum == 0 {
+    let outcome = if row_sum == 0 {
         Schoolbook::new(ring).multiply(left, right, scratch, output)
     } else {
         RowSum::new(ring).multiply(left, right, scratch, output)
     };
-    answer.code()
+    outcome.code()
 }

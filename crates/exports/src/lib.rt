@@ -1,5 +1,6 @@
-// The functions that C and Rust can link, through the static library of exports_c: on numbers and slices, for tests and
-// benchmarks.
+//! The functions that C and Rust can link, through the static library of exports_c: on numbers and slices, for tests and
+//! benchmarks.
+
 #![tactic(auto)]
 
 mod by_index;

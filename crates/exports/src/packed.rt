@@ -1,13 +1,14 @@
-// Packed numbers.
+//! Packed numbers.
+
 ghost use Rattle.std.specs.Prelude.{◌≡◌};
 ghost use Rattle.exports.specs.Packed.{pack_code, pack_output, unpack_code, unpack_numbers};
 
 use crate::codes::{Coded, NO_CALL};
 use packing::Width;
 
-// Packs numbers of so many bits, if there is such a width.
+/// Packs numbers of so many bits, if there is such a width.
 pub fn exported_pack(width: u32, numbers: &[u32], output: &mut [u8]) -> u64
-    ensures answers { result ≡ pack_code width numbers.now output.old }
+    ensures code { result ≡ pack_code width numbers.now output.old }
     ensures writes { output.new ≡ pack_output width numbers.now output.old }
 {
     let Some(width) = Width::new(width) else {
@@ -16,9 +17,9 @@ pub fn exported_pack(width: u32, numbers: &[u32], output: &mut [u8]) -> u64
     width.pack(numbers, output).code()
 }
 
-// Unpacks as many numbers as there is room for.
+/// Unpacks as many numbers as there is room for.
 pub fn exported_unpack(width: u32, bytes: &[u8], numbers: &mut [u32]) -> u64
-    ensures answers { result ≡ unpack_code width bytes.now numbers.old }
+    ensures code { result ≡ unpack_code width bytes.now numbers.old }
     ensures reads { numbers.new ≡ unpack_numbers width bytes.now numbers.old }
 {
     let Some(width) = Width::new(width) else {

@@ -1,4 +1,5 @@
-// The four functions of the house profiles, by the index of a profile.
+//! The four functions of the house profiles, by the index of a profile.
+
 ghost use Rattle.std.specs.Prelude.{◌≡◌};
 ghost use Rattle.exports.specs.Profiles.{round_code, recover_code, reconcile_code, read_code};
 

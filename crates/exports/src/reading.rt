@@ -1,10 +1,11 @@
-// Messages read back, and unpacked into buffers. Each section of an accepted message is as long as its part
-// asks, so that no step after reading can refuse.
+//! Messages read back, and unpacked into buffers. Each section of an accepted message is as long as its part
+//! asks, so that no step after reading can refuse.
+
 ghost use Rattle.std.specs.Prelude.{◌≡◌, ◌==◌, length};
 ghost use Rattle.ring.specs.Faults.{after_part};
 ghost use Rattle.exports.specs.Codes.{no_call};
 ghost use Rattle.exports.specs.Writing.{if_seed};
-ghost use Rattle.exports.specs.Reading.{room_answer, offer_read, answer_read, confirmation_read};
+ghost use Rattle.exports.specs.Reading.{room_outcome, offer_read, answer_read, confirmation_read};
 ghost use Rattle.exports.specs.Reading.{round_told, seed_of, values_of, signals_of};
 ghost use Rattle.exports.specs.Reading.{read_offer_code, read_offer_seed, read_offer_values};
 ghost use Rattle.exports.specs.Reading.{read_answer_code, read_answer_values, read_answer_signals};
@@ -18,7 +19,7 @@ use profile::Profile;
 use ring::Fault;
 
 pub fn exported_read_offer(profile: u8, message: &[u8], seed: &mut [u8], values: &mut [u32]) -> u64
-    ensures answers { result ≡ if_seed seed.old (read_offer_code profile message.now values.old) no_call }
+    ensures code { result ≡ if_seed seed.old (read_offer_code profile message.now values.old) no_call }
     ensures seed { seed.new ≡ if_seed seed.old (read_offer_seed profile message.now seed.old values.old) seed.old }
     ensures values { values.new ≡ if_seed seed.old (read_offer_values profile message.now values.old) values.old }
 {
@@ -34,7 +35,7 @@ pub fn exported_read_answer(
     values: &mut [u32],
     signals: &mut [u32],
 ) -> u64
-    ensures answers { result ≡ read_answer_code profile message.now values.old signals.old }
+    ensures code { result ≡ read_answer_code profile message.now values.old signals.old }
     ensures values { values.new ≡ read_answer_values profile message.now values.old signals.old }
     ensures signals { signals.new ≡ read_answer_signals profile message.now values.old signals.old }
 {
@@ -47,7 +48,7 @@ pub fn exported_read_confirmation(profile: u8, message: &[u8]) -> u64
     by_index!(profile, read_confirmation::<P>(message).code())
 }
 
-// The round of an offer, whose seed and rounded values the buffers then hold.
+/// The round of an offer, whose seed and rounded values the buffers then hold.
 #[tactic(auto, unfolding(crate::specs::Reading::offer_read))]
 fn read_offer<P: Profile>(
     message: &[u8],
@@ -55,11 +56,11 @@ fn read_offer<P: Profile>(
     values: &mut [u32],
 ) -> Result<u32, Refusal>
     requires { length seed.old ≡ 16 }
-    ensures answer { result ≡ round_told (offer_read P.NUMBERS message.now (length values.old)) }
-    ensures seed { let answer = offer_read P.NUMBERS message.now (length values.old) in
-        seed.new ≡ after_part seed_of answer seed.old }
-    ensures values { let answer = offer_read P.NUMBERS message.now (length values.old) in
-        values.new ≡ after_part values_of answer values.old }
+    ensures outcome { result ≡ round_told (offer_read P.NUMBERS message.now (length values.old)) }
+    ensures seed { let outcome = offer_read P.NUMBERS message.now (length values.old) in
+        seed.new ≡ after_part seed_of outcome seed.old }
+    ensures values { let outcome = offer_read P.NUMBERS message.now (length values.old) in
+        values.new ≡ after_part values_of outcome values.old }
 {
     check_room::<P>(values, 1)?;
     let offer = message::read_offer::<P>(message)?;
@@ -70,19 +71,19 @@ fn read_offer<P: Profile>(
     Ok(offer.round)
 }
 
-// The round of an answer, whose rounded values and signals the buffers then hold.
+/// The round of an answer, whose rounded values and signals the buffers then hold.
 #[tactic(auto, unfolding(crate::specs::Reading::answer_read))]
 fn read_answer<P: Profile>(
     message: &[u8],
     values: &mut [u32],
     signals: &mut [u32],
 ) -> Result<u32, Refusal>
-    ensures answer { let answer = answer_read P.NUMBERS message.now (length values.old) (length signals.old) in
-        result ≡ round_told answer }
-    ensures values { let answer = answer_read P.NUMBERS message.now (length values.old) (length signals.old) in
-        values.new ≡ after_part values_of answer values.old }
-    ensures signals { let answer = answer_read P.NUMBERS message.now (length values.old) (length signals.old) in
-        signals.new ≡ after_part signals_of answer signals.old }
+    ensures outcome { let outcome = answer_read P.NUMBERS message.now (length values.old) (length signals.old) in
+        result ≡ round_told outcome }
+    ensures values { let outcome = answer_read P.NUMBERS message.now (length values.old) (length signals.old) in
+        values.new ≡ after_part values_of outcome values.old }
+    ensures signals { let outcome = answer_read P.NUMBERS message.now (length values.old) (length signals.old) in
+        signals.new ≡ after_part signals_of outcome signals.old }
 {
     check_room::<P>(values, 1)?;
     check_room::<P>(signals, 2)?;
@@ -96,7 +97,7 @@ fn read_answer<P: Profile>(
     Ok(answer.round)
 }
 
-// The round of a confirmation.
+/// The round of a confirmation.
 #[tactic(auto, unfolding(crate::specs::Reading::confirmation_read))]
 fn read_confirmation<P: Profile>(message: &[u8]) -> Result<u32, Refusal>
     ensures { result ≡ round_told (confirmation_read P.NUMBERS message.now) }
@@ -104,9 +105,9 @@ fn read_confirmation<P: Profile>(message: &[u8]) -> Result<u32, Refusal>
     Ok(message::read_confirmation::<P>(message)?.round)
 }
 
-// That a buffer, which is that argument of a call, has room for n numbers and no more.
+/// That a buffer, which is that argument of a call, has room for n numbers and no more.
 fn check_room<P: Profile>(numbers: &[u32], argument: usize) -> Result<(), Fault>
-    ensures { result ≡ room_answer P.NUMBERS argument (length numbers.now) }
+    ensures { result ≡ room_outcome P.NUMBERS argument (length numbers.now) }
 {
     if numbers.len() != P::NUMBERS.n {
         return Err(Fault::WrongLength(argument));

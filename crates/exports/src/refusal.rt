@@ -1,8 +1,9 @@
-// Why a message that is handed in is refused.
+//! Why a message that is handed in is refused.
+
 ghost use Rattle.std.specs.Prelude.{◌≡◌};
 ghost use Rattle.exports.specs.declared.refusal.Refusal.TheVariants.{Ring, Message};
 
-// A fault of either layer, passed up whole.
+/// A fault of either layer, passed up whole.
 #[derive(Clone, Copy, PartialEq, Eq, Debug)]
 pub(crate) enum Refusal {
     Ring(ring::Fault),

@@ -1,4 +1,5 @@
-// Messages written from their parts.
+//! Messages written from their parts.
+
 ghost use Rattle.std.specs.Prelude.{◌≡◌};
 ghost use Rattle.message.specs.Messages.{answer, confirmation, offer};
 ghost use Rattle.exports.specs.Codes.{no_call};
@@ -15,7 +16,7 @@ pub fn exported_write_offer(
     values: &[u32],
     output: &mut [u8],
 ) -> u64
-    ensures answers { let message = offer round seed.now values.now in
+    ensures code { let message = offer round seed.now values.now in
         result ≡ if_seed seed.now (write_code profile message output.old) no_call }
     ensures writes { let message = offer round seed.now values.now in
         output.new ≡ if_seed seed.now (write_output profile message output.old) output.old }
@@ -38,7 +39,7 @@ pub fn exported_write_answer(
     signals: &[u32],
     output: &mut [u8],
 ) -> u64
-    ensures answers { result ≡ write_code profile (answer round values.now signals.now) output.old }
+    ensures code { result ≡ write_code profile (answer round values.now signals.now) output.old }
     ensures writes { output.new ≡ write_output profile (answer round values.now signals.now) output.old }
 {
     let answer = Answer {
@@ -50,7 +51,7 @@ pub fn exported_write_answer(
 }
 
 pub fn exported_write_confirmation(profile: u8, round: u32, output: &mut [u8]) -> u64
-    ensures answers { result ≡ write_code profile (confirmation round) output.old }
+    ensures code { result ≡ write_code profile (confirmation round) output.old }
     ensures writes { output.new ≡ write_output profile (confirmation round) output.old }
 {
     let confirmation = Confirmation { round };

@@ -1,4 +1,5 @@
-// The static library that C and Rust can link: each function is that of the same name in exports, with its contract.
+//! The static library that C and Rust can link: each function is that of the same name in exports, with its contract.
+
 #![tactic(auto)]
 
 ghost use Rattle.std.specs.Prelude.{◌≡◌, length};
@@ -31,7 +32,7 @@ pub extern "C" fn exported_multiply(
 
 #[unsafe(no_mangle)]
 pub extern "C" fn exported_derive_tape(profile: u8, tape: &[u8], output: &mut [u32]) -> u64
-    ensures answers { result ≡ derive_tape_code profile tape.now output.old }
+    ensures code { result ≡ derive_tape_code profile tape.now output.old }
     ensures writes { output.new ≡ derive_tape_output profile tape.now output.old }
 {
     exports::exported_derive_tape(profile, tape, output)
@@ -39,7 +40,7 @@ pub extern "C" fn exported_derive_tape(profile: u8, tape: &[u8], output: &mut [u
 
 #[unsafe(no_mangle)]
 pub extern "C" fn exported_derive_shake(profile: u8, seed: &[u8], output: &mut [u32]) -> u64
-    ensures answers { result ≡ derive_seed_code profile seed.now output.old }
+    ensures code { result ≡ derive_seed_code profile seed.now output.old }
     ensures writes { output.new ≡ derive_seed_output profile seed.now output.old }
 {
     exports::exported_derive_shake(profile, seed, output)
@@ -82,7 +83,7 @@ pub extern "C" fn exported_read(profile: u8, y: u32, signal: u8) -> u64
 
 #[unsafe(no_mangle)]
 pub extern "C" fn exported_pack(width: u32, numbers: &[u32], output: &mut [u8]) -> u64
-    ensures answers { result ≡ pack_code width numbers.now output.old }
+    ensures code { result ≡ pack_code width numbers.now output.old }
     ensures writes { output.new ≡ pack_output width numbers.now output.old }
 {
     exports::exported_pack(width, numbers, output)
@@ -90,7 +91,7 @@ pub extern "C" fn exported_pack(width: u32, numbers: &[u32], output: &mut [u8]) 
 
 #[unsafe(no_mangle)]
 pub extern "C" fn exported_unpack(width: u32, bytes: &[u8], numbers: &mut [u32]) -> u64
-    ensures answers { result ≡ unpack_code width bytes.now numbers.old }
+    ensures code { result ≡ unpack_code width bytes.now numbers.old }
     ensures reads { numbers.new ≡ unpack_numbers width bytes.now numbers.old }
 {
     exports::exported_unpack(width, bytes, numbers)
@@ -104,7 +105,7 @@ pub extern "C" fn exported_write_offer(
     values: &[u32],
     output: &mut [u8],
 ) -> u64
-    ensures answers { let message = offer round seed.now values.now in
+    ensures code { let message = offer round seed.now values.now in
         result ≡ if_seed seed.now (write_code profile message output.old) no_call }
     ensures writes { let message = offer round seed.now values.now in
         output.new ≡ if_seed seed.now (write_output profile message output.old) output.old }
@@ -120,7 +121,7 @@ pub extern "C" fn exported_write_answer(
     signals: &[u32],
     output: &mut [u8],
 ) -> u64
-    ensures answers { result ≡ write_code profile (answer round values.now signals.now) output.old }
+    ensures code { result ≡ write_code profile (answer round values.now signals.now) output.old }
     ensures writes { output.new ≡ write_output profile (answer round values.now signals.now) output.old }
 {
     exports::exported_write_answer(profile, round, values, signals, output)
@@ -128,7 +129,7 @@ pub extern "C" fn exported_write_answer(
 
 #[unsafe(no_mangle)]
 pub extern "C" fn exported_write_confirmation(profile: u8, round: u32, output: &mut [u8]) -> u64
-    ensures answers { result ≡ write_code profile (confirmation round) output.old }
+    ensures code { result ≡ write_code profile (confirmation round) output.old }
     ensures writes { output.new ≡ write_output profile (confirmation round) output.old }
 {
     exports::exported_write_confirmation(profile, round, output)
@@ -141,7 +142,7 @@ pub extern "C" fn exported_read_offer(
     seed: &mut [u8],
     values: &mut [u32],
 ) -> u64
-    ensures answers { result ≡ if_seed seed.old (read_offer_code profile message.now values.old) no_call }
+    ensures code { result ≡ if_seed seed.old (read_offer_code profile message.now values.old) no_call }
     ensures seed { seed.new ≡ if_seed seed.old (read_offer_seed profile message.now seed.old values.old) seed.old }
     ensures values { values.new ≡ if_seed seed.old (read_offer_values profile message.now values.old) values.old }
 {
@@ -155,7 +156,7 @@ pub extern "C" fn exported_read_answer(
     values: &mut [u32],
     signals: &mut [u32],
 ) -> u64
-    ensures answers { result ≡ read_answer_code profile message.now values.old signals.old }
+    ensures code { result ≡ read_answer_code profile message.now values.old signals.old }
     ensures values { values.new ≡ read_answer_values profile message.now values.old signals.old }
     ensures signals { signals.new ≡ read_answer_signals profile message.now values.old signals.old }
 {

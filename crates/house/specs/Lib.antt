@@ -1,5 +1,5 @@
 pub mod Rounding
 pub mod NumberSets
 pub mod House
-pub mod Bench
+pub mod WorkedValues
 pub mod LawProofs

@@ -1,4 +1,5 @@
-// One text for every house profile.
+//! One text for every house profile.
+
 ghost use Rattle.std.specs.Prelude.{◌≡◌};
 ghost use Rattle.house.specs.House.{house_numbers, house_functions};
 ghost use Rattle.house.specs.NumberSets.{bounds_of_sizes};
@@ -13,20 +14,20 @@ use reconcile::Reconciler;
 use ring::{Fault, Modulus};
 use std::marker::PhantomData;
 
-// The profile of a number set with a reconciler.
+/// The profile of a number set with a reconciler.
 pub struct House<S, K> {
     parts: PhantomData<(S, K)>,
 }
 
-// The modulus of a number set. `profile::modulus` gives the same of a profile, but the impl of Profile below cannot call it for
-// itself: the check covers no call that leads back to a method of the same impl.
+/// The modulus of a number set. `profile::modulus` gives the same of a profile, but the impl of Profile below cannot call it for
+/// itself: the check covers no call that leads back to a method of the same impl.
 fn modulus_of<S: NumberSet>() -> Modulus
     ensures { result.q ≡ S.SIZES.q }
 {
     Modulus::new(S::SIZES.q).unwrap()
 }
 
-// Rounding by the numbers of the number set, in the steps of the reconciler.
+/// Rounding by the numbers of the number set, in the steps of the reconciler.
 fn rounding<S: NumberSet, K: Reconciler>() -> Rounding
     ensures q { result.q ≡ S.SIZES.q }
     ensures p { result.p ≡ S.SIZES.p }
@@ -40,7 +41,7 @@ fn rounding<S: NumberSet, K: Reconciler>() -> Rounding
     }
 }
 
-// The largest difference that the reconciler tolerates at the modulus of the number set.
+/// The largest difference that the reconciler tolerates at the modulus of the number set.
 const fn tau<S: NumberSet, K: Reconciler>() -> u32
     ensures { result ≡ tolerance K.NUMBERS S.SIZES.q }
 {

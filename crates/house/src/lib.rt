@@ -1,4 +1,5 @@
-// The house profiles: three number sets by two reconcilers, from one text.
+//! The house profiles: three number sets by two reconcilers, from one text.
+
 #![tactic(auto)]
 
 mod house;
@@ -10,4 +11,4 @@ mod theorems;
 pub use house::House;
 pub use number_set::{NumberSet, S, T, W};
 pub use sizes::Sizes;
-pub use theorems::{bench_values_hold, house_profiles, rounding_is_nearest, tie_is_midway};
+pub use theorems::{worked_values_hold, house_profiles, rounding_is_nearest, tie_is_midway};

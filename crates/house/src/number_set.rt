@@ -1,28 +1,21 @@
-// The three number sets.
-ghost use Rattle.std.specs.Prelude.{◌≡◌};
+//! The three number sets.
+
 ghost use Rattle.house.specs.NumberSets.{Admissible, sizes_t, sizes_s, sizes_w};
 ghost use Rattle.house.specs.declared.sizes.Sizes.{Sizes};
 ghost use Rattle.house.specs.LawProofs.AdmissibleSets.{admissible_t, admissible_s, admissible_w};
 
 use crate::sizes::Sizes;
 
-// What a house profile has apart from its reconciler.
+/// What a house profile has apart from its reconciler.
 pub trait NumberSet {
     const SIZES: Sizes;
 
     ghost SIZES: { Sizes };
 
-    // The sizes, as a call gives them.
-    fn stated() -> Sizes
-        ensures { result ≡ SIZES }
-    {
-        Self::SIZES
-    }
-
     ghost admissible: { Admissible SIZES };
 }
 
-// Small enough to work through by hand.
+/// Small enough to work through by hand.
 pub struct T;
 
 impl NumberSet for T {
@@ -42,7 +35,7 @@ impl NumberSet for T {
     ghost admissible = { admissible_t };
 }
 
-// Small numbers.
+/// Small numbers.
 pub struct S;
 
 impl NumberSet for S {
@@ -62,7 +55,7 @@ impl NumberSet for S {
     ghost admissible = { admissible_s };
 }
 
-// A wide modulus.
+/// A wide modulus.
 pub struct W;
 
 impl NumberSet for W {

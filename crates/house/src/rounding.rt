@@ -1,8 +1,9 @@
-// House rounding: a residue below q goes to a value in 0 .. p of its own class modulo step, and back.
+//! House rounding: a residue below q goes to a value in 0 .. p of its own class modulo step, and back.
+
 ghost use Rattle.std.specs.Prelude.{◌≡◌, ◌+◌, ◌*◌, ◌/◌, ◌^◌, ◌<◌, ◌≤◌};
 ghost use Rattle.house.specs.Rounding.{recover as recover_value, round as round_value};
 
-// The numbers that residues are rounded by.
+/// The numbers that residues are rounded by.
 #[derive(Clone, Copy)]
 pub(crate) struct Rounding {
     pub(crate) q: u32,
@@ -17,7 +18,7 @@ pub(crate) struct Rounding {
 }
 
 impl Rounding {
-    // The least integer at or above floor(y q / p) that differs from y by a multiple of step.
+    /// The least integer at or above floor(y q / p) that differs from y by a multiple of step.
     pub(crate) fn recover(self, y: u32) -> u32
         requires { y ≤ self.p }
         ensures { result ≡ recover_value self.q self.p self.step y }
@@ -27,7 +28,7 @@ impl Rounding {
         floor + (floor + y) % self.step
     }
 
-    // The value in 0 .. p of the class of x that recovers nearest to x, the smaller at a tie.
+    /// The value in 0 .. p of the class of x that recovers nearest to x, the smaller at a tie.
     #[tactic(auto, using(crate::proofs::RoundingSearch::round_first, crate::proofs::RoundingSearch::round_down, crate::proofs::RoundingSearch::round_up, crate::proofs::RoundingSearch::low_under, crate::proofs::RoundingSearch::over_high))]
     pub(crate) fn round(self, x: u32) -> u32
         requires { x < self.q }
@@ -49,7 +50,7 @@ impl Rounding {
         if above < below { high } else { low }
     }
 
-    // The largest y with floor(y q / p) at most x, which is floor(((x + 1) p - 1) / q).
+    /// The largest y with floor(y q / p) at most x, which is floor(((x + 1) p - 1) / q).
     #[tactic(auto, using(crate::specs::LawProofs::Floors::last_steps))]
     fn last_at_most(self, x: u32) -> u32
         requires { x < self.q }

@@ -7,7 +7,7 @@ pub struct Sizes {
     pub w: u32,
     pub e: u32,
     pub l: u32,
-    // the largest rounding distance, in steps
+    /// the largest rounding distance, in steps
     pub rounding: u32,
     pub byte: u8,
 }

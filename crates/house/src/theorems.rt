@@ -1,6 +1,7 @@
-// What is proved of the house profiles as a whole. A theorem stands on a function's contract, where the check asks for its proof.
+//! What is proved of the house profiles as a whole. A theorem stands on a function's contract, where the check asks for its proof.
+
 ghost use Rattle.std.specs.Prelude.{◌≡◌, [], ◌∷◌};
-ghost use Rattle.house.specs.Bench.{BenchValues};
+ghost use Rattle.house.specs.WorkedValues.{WorkedValues};
 ghost use Rattle.house.specs.House.{t_ding, t_okcn, s_ding, s_okcn, w_ding, w_okcn, HouseProfilesLawful};
 ghost use Rattle.house.specs.Rounding.{RoundingIsNearest, TieIsMidway};
 
@@ -9,7 +10,7 @@ use crate::number_set::{NumberSet, S, T, W};
 use profile::{Numbers, Profile};
 use reconcile::{Ding, Okcn, Reconciler};
 
-// The numbers of the six house profiles, each of which is lawful.
+/// The numbers of the six house profiles, each of which is lawful.
 pub fn house_profiles() -> [Numbers; 6]
     ensures rows { result ≡ t_ding ∷ t_okcn ∷ s_ding ∷ s_okcn ∷ w_ding ∷ w_okcn ∷ [] }
     ensures lawful { HouseProfilesLawful }
@@ -24,17 +25,17 @@ pub fn house_profiles() -> [Numbers; 6]
     ]
 }
 
-// Recovering gives the least integer of its class, and rounding the nearest value of its class, for every modulus and step.
+/// Recovering gives the least integer of its class, and rounding the nearest value of its class, for every modulus and step.
 pub fn rounding_is_nearest()
     ensures { RoundingIsNearest }
 {}
 
-// A residue is a tie, with another value as near, exactly where it lies midway between its rounded value and the next.
+/// A residue is a tie, with another value as near, exactly where it lies midway between its rounded value and the next.
 pub fn tie_is_midway()
     ensures { TieIsMidway }
 {}
 
-// What the functions of the profiles at T, and the product at its n and q, give at the values that were worked out by hand.
-pub fn bench_values_hold()
-    ensures { BenchValues }
+/// What the functions of the profiles at T, and the product at its n and q, give at the values that were worked out by hand.
+pub fn worked_values_hold()
+    ensures { WorkedValues }
 {}

@@ -1,4 +1,5 @@
-// SHAKE128 of FIPS 202, over the permutation Keccak-f[1600].
+//! SHAKE128 of FIPS 202, over the permutation Keccak-f[1600].
+
 #![tactic(auto)]
 
 mod output;

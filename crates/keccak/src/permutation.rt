@@ -1,4 +1,5 @@
-// The permutation Keccak-f[1600] of FIPS 202. Lane (x, y) of a state is number x + 5 * y.
+//! The permutation Keccak-f[1600] of FIPS 202. Lane (x, y) of a state is number x + 5 * y.
+
 ghost use Rattle.std.specs.Prelude.{◌≡◌, ℕ, ◌<◌, slice_index};
 ghost use Rattle.keccak.specs.Permutation.{
   by_lane,
@@ -24,7 +25,7 @@ const ROUND_CONSTANTS: [u64; 24] = [
     0x8000000080008081, 0x8000000000008080, 0x0000000080000001, 0x8000000080008008,
 ];
 
-// The offset of lane (x, y) is number x + 5 * y.
+/// The offset of lane (x, y) is number x + 5 * y.
 #[rattlefmt::skip]
 const ROTATION_OFFSETS: [u32; 25] = [
      0,  1, 62, 28, 27,
@@ -34,7 +35,7 @@ const ROTATION_OFFSETS: [u32; 25] = [
     18,  2, 61, 56, 14,
 ];
 
-// The state whose lane (x, y) is `lane(x, y)`.
+/// The state whose lane (x, y) is `lane(x, y)`.
 #[tactic(auto, using(crate::proofs::Fills::filled_more))]
 fn by_lane<F: Fn(usize, usize) -> u64>(lane: F) -> [u64; 25]
     requires { (x y : ℕ) → x < 5 → y < 5 → F.pre lane x y }
@@ -49,14 +50,14 @@ fn by_lane<F: Fn(usize, usize) -> u64>(lane: F) -> [u64; 25]
     lanes
 }
 
-// The parities of the five columns.
+/// The parities of the five columns.
 fn parities(lanes: [u64; 25]) -> [u64; 5]
     ensures { (x : ℕ) → x < 5 → slice_index result x ≡ parity lanes x }
 {
     from_fn(|x| lanes[x] ^ lanes[x + 5] ^ lanes[x + 10] ^ lanes[x + 15] ^ lanes[x + 20])
 }
 
-// Adds to each lane the parities of two columns beside it.
+/// Adds to each lane the parities of two columns beside it.
 #[tactic(auto, unfolding(crate::specs::Permutation::theta))]
 fn theta(lanes: [u64; 25]) -> [u64; 25]
     ensures { result ≡ theta_of lanes }
@@ -68,7 +69,7 @@ fn theta(lanes: [u64; 25]) -> [u64; 25]
     })
 }
 
-// Rotates each lane by the offset of its place.
+/// Rotates each lane by the offset of its place.
 #[tactic(auto, unfolding(crate::specs::Permutation::rho))]
 fn rho(lanes: [u64; 25]) -> [u64; 25]
     ensures { result ≡ rho_of lanes }
@@ -76,7 +77,7 @@ fn rho(lanes: [u64; 25]) -> [u64; 25]
     by_lane(|x, y| lanes[x + 5 * y].rotate_left(ROTATION_OFFSETS[x + 5 * y]))
 }
 
-// Moves the lanes to other places.
+/// Moves the lanes to other places.
 #[tactic(auto, unfolding(crate::specs::Permutation::pi))]
 fn pi(lanes: [u64; 25]) -> [u64; 25]
     ensures { result ≡ pi_of lanes }
@@ -84,7 +85,7 @@ fn pi(lanes: [u64; 25]) -> [u64; 25]
     by_lane(|x, y| lanes[(x + 3 * y) % 5 + 5 * x])
 }
 
-// Adds to each lane the product of the next two of its row, the first of them complemented.
+/// Adds to each lane the product of the next two of its row, the first of them complemented.
 #[tactic(auto, unfolding(crate::specs::Permutation::chi))]
 fn chi(lanes: [u64; 25]) -> [u64; 25]
     ensures { result ≡ chi_of lanes }
@@ -95,7 +96,7 @@ fn chi(lanes: [u64; 25]) -> [u64; 25]
     })
 }
 
-// Adds the constant of a round to lane (0, 0).
+/// Adds the constant of a round to lane (0, 0).
 #[tactic(auto, unfolding(crate::specs::Permutation::iota))]
 fn iota(mut lanes: [u64; 25], constant: u64) -> [u64; 25]
     ensures { (round : ℕ) → constant ≡ slice_index round_constants round → result ≡ iota_of round lanes }

@@ -1,21 +1,22 @@
-// The sponge of FIPS 202 over Keccak-f[1600] with 168 bytes to a block, as SHAKE128 uses it.
+//! The sponge of FIPS 202 over Keccak-f[1600] with 168 bytes to a block, as SHAKE128 uses it.
+
 ghost use Rattle.std.specs.Prelude.{◌≡◌, ◌+◌, ◌-◌, ◌*◌, ◌<◌, ◌≤◌, ◌++◌, length};
 ghost use Rattle.keccak.specs.Permutation.{keccak_f};
 ghost use Rattle.keccak.specs.Sponge.{rate, padding, added, absorbed, output_block, next_state};
 
 use crate::permutation::keccak_f;
 
-// The bytes of a block.
+/// The bytes of a block.
 pub const RATE: usize = 168;
 
-// A sponge that has absorbed a message. It permutes when a block is asked for, and not after.
+/// A sponge that has absorbed a message. It permutes when a block is asked for, and not after.
 #[derive(Drop)]
 pub struct Shake128 {
     lanes: [u64; 25],
 }
 
 impl Shake128 {
-    // The sponge after the whole message, padded as SHAKE128 has it.
+    /// The sponge after the whole message, padded as SHAKE128 has it.
     #[tactic(auto, using(crate::proofs::Absorbing::absorbed_more, crate::proofs::Absorbing::absorbed_is))]
     pub fn absorb(message: &[u8]) -> Shake128
         ensures { next_state result ≡ absorbed message.now }
@@ -30,7 +31,7 @@ impl Shake128 {
         Shake128 { lanes }
     }
 
-    // Writes the next 168 bytes of the output into `block`.
+    /// Writes the next 168 bytes of the output into `block`.
     pub fn squeeze(&mut self, block: &mut [u8; RATE])
         ensures output { block.new ≡ output_block (next_state self.old) }
         ensures state { next_state self.new ≡ keccak_f (next_state self.old) }
@@ -40,7 +41,7 @@ impl Shake128 {
     }
 }
 
-// Adds a block to the state, over its first 21 lanes: eight bytes to a lane, the low byte first.
+/// Adds a block to the state, over its first 21 lanes: eight bytes to a lane, the low byte first.
 #[tactic(auto, using(crate::proofs::Blocks::added_all))]
 fn add_block(lanes: &mut [u64; 25], block: &[u8; RATE])
     ensures { lanes.new ≡ added lanes.old block.now }
@@ -51,7 +52,7 @@ fn add_block(lanes: &mut [u64; 25], block: &[u8; RATE])
     }
 }
 
-// The last block of a message of which `rest` is left: the rest and its padding.
+/// The last block of a message of which `rest` is left: the rest and its padding.
 #[tactic(auto, using(crate::proofs::Padding::finished_is))]
 fn last_block(rest: &[u8]) -> [u8; RATE]
     requires { length rest.now < rate }
@@ -65,7 +66,7 @@ fn last_block(rest: &[u8]) -> [u8; RATE]
     block
 }
 
-// Writes the first 168 bytes of a state.
+/// Writes the first 168 bytes of a state.
 #[tactic(auto, using(crate::proofs::Blocks::bytes_all))]
 fn write_block(lanes: &[u64; 25], block: &mut [u8; RATE])
     ensures { block.new ≡ output_block lanes.now }

@@ -6,14 +6,14 @@ use borrow.Rule.Slice.PartMut.{put_mid}
 use Rattle.hex.specs.Hex.{encode_lower, lower_digits}
 use Rattle.hex.proofs.HexLemmas.{length-encode_with}
 use Rattle.ring.specs.declared.fault.Fault.{Fault}
-use Rattle.message.specs.Lines.{LineMeans, line, line_answer}
+use Rattle.message.specs.Lines.{LineMeans, line, hexadecimal_line_outcome}
 
 length-line : (word bytes : List ℕ) → length (line word bytes) ≡ length word + 2 * length bytes + 2
 length-line word bytes =
     let text = encode_lower bytes in
     omega (arith, length-append word (32 ∷ (text ++ 10 ∷ [])), length-append text (10 ∷ []), length-encode_with lower_digits bytes)
 
-pub line_means : (word bytes : List ℕ) (room : ℕ) → LineMeans word bytes room (line_answer word bytes room)
+pub line_means : (word bytes : List ℕ) (room : ℕ) → LineMeans word bytes room (hexadecimal_line_outcome word bytes room)
 line_means word bytes room =
     let long = length-line word bytes in
     cond_both (eqb room (length word + 2 * length bytes + 2)) _ _ (LineMeans word bytes room)
@@ -21,8 +21,8 @@ line_means word bytes room =
     (λ other. (refl, λ is. eqb-false _ _ other (is ∙ long)))
 
 -- the same of an answer that is that of the line
-pub answer_means : (word bytes : List ℕ) (room : ℕ) (result : Result (Unit {0}) Fault) → result ≡ line_answer word bytes room → LineMeans word bytes room result
-answer_means word bytes room result is = subst (LineMeans word bytes room) (sym is) (line_means word bytes room)
+pub outcome_means : (word bytes : List ℕ) (room : ℕ) (result : Result (Unit {0}) Fault) → result ≡ hexadecimal_line_outcome word bytes room → LineMeans word bytes room result
+outcome_means word bytes room result is = subst (LineMeans word bytes room) (sym is) (line_means word bytes room)
 
 pub line_written : (word text out : List ℕ) → length out ≡ length word + length text + 2 → set (put_mid (length word + 1) (length out - 1 - (length word + 1)) (set (word ++ drop (length word) out) (length word) 32) text) (length out - 1) 10 ≡ word ++ 32 ∷ (text ++ 10 ∷ [])
 line_written word text out long =

@@ -1,14 +1,14 @@
 -- What each answer of writing says of the parts and of the room, and that what fits is accepted.
 use Rattle.std.proofs.Common.{◌≡◌, ℕ, ◌+◌, ◌^◌, eqb, leb, List, length, inl, inr, Ok, Err, Result, sym, refl, ◌∙◌, subst, arith}
 use Rattle.std.proofs.lemmas.Bool.{cond-true, cond_both, eq-eqb, eqb-true, eqb-false, leb-true, leb-false}
-use Rattle.ring.specs.Elements.{AllBelow, FirstNotBelow, front_below}
+use Rattle.ring.specs.Elements.{AllBelow, FirstNotBelow, first_not_below}
 use Rattle.ring.specs.declared.fault.Fault.{Fault}
 use Rattle.ring.specs.declared.fault.Fault.TheVariants.{OutOfRange}
-use Rattle.ring.proofs.Elements.{all_below, first_not_below, front_passed}
+use Rattle.ring.proofs.Elements.{all_below, is_first_not_below, all_below_passes}
 use Rattle.profile.specs.declared.numbers.Numbers.{Numbers}
 use Rattle.message.specs.Lengths.{offer_length, answer_length, confirmation_length}
 use Rattle.message.specs.Messages.{Message, offer, answer, confirmation}
-use Rattle.message.specs.Writing.{check_fit, write_answer}
+use Rattle.message.specs.Writing.{check_fit, write_outcome}
 use Rattle.message.specs.WritingLaws.{WriteMeans, WritingAcceptsWhatFits}
 
 module _ (n w : ℕ) (xs : List ℕ) (long : length xs ≡ n) (first : ℕ) (rest : Result (Unit {0}) Fault) where
@@ -16,16 +16,16 @@ module _ (n w : ℕ) (xs : List ℕ) (long : length xs ≡ n) (first : ℕ) (res
   fit_or_first : (P : Result (Unit {0}) Fault → Type 0) → (AllBelow (2 ^ w) xs → P rest) → ((i : ℕ) → FirstNotBelow (2 ^ w) xs i → P (Err (OutOfRange (first + i)))) → P (check_fit n w first xs rest)
   fit_or_first P fit stop =
       let bound = 2 ^ w in
-      cond_both (leb n (front_below bound xs)) _ _ P
+      cond_both (leb n (first_not_below bound xs)) _ _ P
       (λ whole. fit (all_below bound xs (omega (arith, leb-true _ _ whole))))
-      (λ stops. stop (front_below bound xs) (first_not_below bound xs (omega (arith, leb-false _ _ stops))))
+      (λ stops. stop (first_not_below bound xs) (is_first_not_below bound xs (omega (arith, leb-false _ _ stops))))
 
   passed : AllBelow (2 ^ w) xs → check_fit n w first xs rest ≡ rest
-  passed fit = cond-true _ _ _ (front_passed (2 ^ w) n xs long fit)
+  passed fit = cond-true _ _ _ (all_below_passes (2 ^ w) n xs long fit)
 
 -- ---- what each answer says
 
-pub write_means : (k : Numbers) (m : Message) (room : ℕ) → WriteMeans k m room (write_answer k m room)
+pub write_means : (k : Numbers) (m : Message) (room : ℕ) → WriteMeans k m room (write_outcome k m room)
 write_means k (offer round seed values) room =
     let Means = WriteMeans k (offer round seed values) room in
     cond_both (eqb (length values) k.n) _ _ Means
@@ -64,7 +64,7 @@ write_means k (confirmation round) room =
     (λ r. (refl, eqb-false _ _ r))
 
 -- the same of an answer that is that of writing
-pub written_means : (k : Numbers) (m : Message) (room : ℕ) (result : Result (Unit {0}) Fault) → result ≡ write_answer k m room → WriteMeans k m room result
+pub written_means : (k : Numbers) (m : Message) (room : ℕ) (result : Result (Unit {0}) Fault) → result ≡ write_outcome k m room → WriteMeans k m room result
 written_means k m room result is = subst (WriteMeans k m room) (sym is) (write_means k m room)
 
 -- ---- what is accepted

@@ -10,8 +10,8 @@ use Rattle.hex.specs.Hex.{encode_lower}
 abbrev pub line : (word bytes : List ℕ) → List ℕ
 line word bytes = word ++ 32 ∷ (encode_lower bytes ++ 10 ∷ [])
 
-abbrev pub line_answer : (word bytes : List ℕ) → (room : ℕ) → Result (Unit {0}) Fault
-line_answer word bytes room = checked (room == length word + 2 * length bytes + 2) (WrongLength 4) (Ok tt)
+abbrev pub hexadecimal_line_outcome : (word bytes : List ℕ) → (room : ℕ) → Result (Unit {0}) Fault
+hexadecimal_line_outcome word bytes room = checked (room == length word + 2 * length bytes + 2) (WrongLength 4) (Ok tt)
 
 -- what each answer says of the room: that it is the line's length, or that it is not
 abbrev pub LineMeans : (word bytes : List ℕ) → (room : ℕ) → Result (Unit {0}) Fault → Type 0
@@ -25,4 +25,4 @@ LineMeans word bytes room (Err (SourceSpent place)) = ⊥
 -- every word and bytes, into any room
 abbrev pub LineTakesItsLength : Type 0
 LineTakesItsLength =
-    (word bytes : List ℕ) (room : ℕ) → LineMeans word bytes room (line_answer word bytes room)
+    (word bytes : List ℕ) (room : ℕ) → LineMeans word bytes room (hexadecimal_line_outcome word bytes room)

@@ -11,7 +11,7 @@ use Rattle.message.specs.Lines.{LineTakesItsLength}
 use Rattle.message.specs.Messages.{Message, HasLawfulParts, IsRound, encoded, kind_of, round_of}
 use Rattle.message.specs.Reading.{reading, spare_bit_fault}
 use Rattle.message.specs.ReadingLaws.{ReadingRefusesTheFirst, TellsWrongHeads, TellsWrongShapes}
-use Rattle.message.specs.Writing.{message_length, write_answer}
+use Rattle.message.specs.Writing.{message_length, write_outcome}
 use Rattle.message.specs.WritingLaws.{WritingAcceptsWhatFits, WritingRefusesTheFirst}
 
 -- a written message reads back to its parts
@@ -48,7 +48,7 @@ pub record TellsSpareBits (n w at : ℕ) (bytes : List ℕ) : Type 0 where
 pub record WritesLawfulParts (k : Numbers) (m : Message) : Type 0 where
   pub length : length (encoded k m) ≡ message_length k (kind_of m)
   pub is_bytes : AllFit 8 (encoded k m)
-  pub accepted : write_answer k m (message_length k (kind_of m)) ≡ Ok tt
+  pub accepted : write_outcome k m (message_length k (kind_of m)) ≡ Ok tt
 
 pub record MessageLaws : Type 0 where
   pub writes_lawful_parts : (k : Numbers) → InRange k → (m : Message) → HasLawfulParts k m → WritesLawfulParts k m

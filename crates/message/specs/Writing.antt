@@ -14,20 +14,20 @@ use Rattle.message.specs.Messages.{Message, offer, answer, confirmation}
 abbrev pub check_fit : (n w first : ℕ) → List ℕ → Result (Unit {0}) Fault → Result (Unit {0}) Fault
 check_fit n w first xs rest = checked (nat_le n (front_fitting w xs)) (OutOfRange (first + front_fitting w xs)) rest
 
-abbrev pub write_answer : Numbers → Message → (room : ℕ) → Result (Unit {0}) Fault
-write_answer k (offer round seed values) room =
+abbrev pub write_outcome : Numbers → Message → (room : ℕ) → Result (Unit {0}) Fault
+write_outcome k (offer round seed values) room =
     checked (length values == k.n) (WrongLength 1)
     (checked (room == offer_length k) (WrongLength 4)
     (check_fit k.n k.w 0 values
     (Ok tt)))
-write_answer k (answer round values signals) room =
+write_outcome k (answer round values signals) room =
     checked (length values == k.n) (WrongLength 1)
     (checked (length signals == k.n) (WrongLength 2)
     (checked (room == answer_length k) (WrongLength 4)
     (check_fit k.n k.w 0 values
     (check_fit k.n k.signal_width k.n signals
     (Ok tt)))))
-write_answer k (confirmation round) room = checked (room == confirmation_length) (WrongLength 4) (Ok tt)
+write_outcome k (confirmation round) room = checked (room == confirmation_length) (WrongLength 4) (Ok tt)
 
 -- how long the messages of a kind are
 abbrev pub message_length : Numbers → Kind → ℕ

@@ -7,7 +7,7 @@ use Rattle.ring.specs.declared.fault.Fault.TheVariants.{SumTooLarge, CoinOutOfRa
 use Rattle.profile.specs.declared.numbers.Numbers.{Numbers}
 use Rattle.message.specs.Lengths.{offer_length, answer_length, confirmation_length}
 use Rattle.message.specs.Messages.{Message, offer, answer, confirmation}
-use Rattle.message.specs.Writing.{write_answer}
+use Rattle.message.specs.Writing.{write_outcome}
 
 -- n rounded values, n signals, and the room that the message takes
 abbrev pub LengthsFit : Numbers → Message → (room : ℕ) → Type 0
@@ -54,9 +54,9 @@ WriteMeans k m room (Err (SourceSpent place)) = ⊥
 
 -- every message of any profile, into any room
 abbrev pub WritingRefusesTheFirst : Type 0
-WritingRefusesTheFirst = (k : Numbers) (m : Message) (room : ℕ) → WriteMeans k m room (write_answer k m room)
+WritingRefusesTheFirst = (k : Numbers) (m : Message) (room : ℕ) → WriteMeans k m room (write_outcome k m room)
 
 abbrev pub WritingAcceptsWhatFits : Type 0
 WritingAcceptsWhatFits =
     (k : Numbers) (m : Message) (room : ℕ) → LengthsFit k m room → NumbersFit k m
-    → write_answer k m room ≡ Ok tt
+    → write_outcome k m room ≡ Ok tt

@@ -1,11 +1,12 @@
-// The head of a message.
+//! The head of a message.
+
 ghost use Rattle.std.specs.Prelude.{◌≡◌};
 ghost use Rattle.message.specs.Messages.{IsRound, head};
 
 use crate::kind::Kind;
 use profile::Profile;
 
-// Its seven bytes.
+/// Its seven bytes.
 pub(crate) fn head<P: Profile>(kind: Kind, round: u32) -> [u8; 7]
     ensures bytes { result ≡ head P.NUMBERS kind round }
     ensures round { IsRound round }

@@ -1,4 +1,5 @@
-// The kinds of messages.
+//! The kinds of messages.
+
 ghost use Rattle.std.specs.Prelude.{◌≡◌};
 ghost use Rattle.message.specs.Messages.{kind_byte};
 
@@ -10,7 +11,7 @@ pub enum Kind {
 }
 
 impl Kind {
-    // The first byte of the head.
+    /// The first byte of the head.
     pub fn byte(self) -> u8
         ensures { result ≡ kind_byte self }
     {

@@ -1,4 +1,5 @@
-// The lengths in bytes of a profile's messages and key.
+//! The lengths in bytes of a profile's messages and key.
+
 ghost use Rattle.std.specs.Prelude.{◌≡◌, ◌+◌, ◌≤◌};
 ghost use Rattle.packing.specs.Lengths.{packed_length};
 ghost use Rattle.message.specs.Lengths.{values_length, signals_length, section_length, offer_length, answer_length, confirmation_length, key_length};
@@ -7,13 +8,13 @@ use crate::widths::{key_width, signals_width, values_width};
 use packing::Width;
 use profile::Profile;
 
-// The bytes of a message's head.
+/// The bytes of a message's head.
 pub const HEAD_LENGTH: usize = 7;
 
-// The bytes of a seed.
+/// The bytes of a seed.
 pub const SEED_LENGTH: usize = 16;
 
-// What n numbers of a width take, packed one after another.
+/// What n numbers of a width take, packed one after another.
 fn packed<P: Profile>(width: Width) -> usize
     ensures value { result ≡ packed_length P.NUMBERS.n width.bits }
     ensures bound { result ≤ 2048 }
@@ -21,7 +22,7 @@ fn packed<P: Profile>(width: Width) -> usize
     width.packed_length(P::NUMBERS.n) as usize
 }
 
-// A section has its count of bytes before it, in two bytes.
+/// A section has its count of bytes before it, in two bytes.
 fn section(bytes: usize) -> usize
     requires { bytes ≤ 2048 }
     ensures { result ≡ section_length bytes }
@@ -29,7 +30,7 @@ fn section(bytes: usize) -> usize
     2 + bytes
 }
 
-// The rounded values of an element.
+/// The rounded values of an element.
 pub fn values_length<P: Profile>() -> usize
     ensures value { result ≡ values_length P.NUMBERS }
     ensures bound { result ≤ 2048 }
@@ -37,7 +38,7 @@ pub fn values_length<P: Profile>() -> usize
     packed::<P>(values_width::<P>())
 }
 
-// Its signals.
+/// Its signals.
 pub fn signals_length<P: Profile>() -> usize
     ensures value { result ≡ signals_length P.NUMBERS }
     ensures bound { result ≤ 2048 }
@@ -45,28 +46,28 @@ pub fn signals_length<P: Profile>() -> usize
     packed::<P>(signals_width::<P>())
 }
 
-// Head, seed and rounded values.
+/// Head, seed and rounded values.
 pub fn offer_length<P: Profile>() -> usize
     ensures { result ≡ offer_length P.NUMBERS }
 {
     section(HEAD_LENGTH) + section(SEED_LENGTH) + section(values_length::<P>())
 }
 
-// Head, rounded values and signals.
+/// Head, rounded values and signals.
 pub fn answer_length<P: Profile>() -> usize
     ensures { result ≡ answer_length P.NUMBERS }
 {
     section(HEAD_LENGTH) + section(values_length::<P>()) + section(signals_length::<P>())
 }
 
-// The head alone, in every profile.
+/// The head alone, in every profile.
 pub fn confirmation_length() -> usize
     ensures { result ≡ confirmation_length }
 {
     section(HEAD_LENGTH)
 }
 
-// One bit for each coefficient.
+/// One bit for each coefficient.
 pub fn key_length<P: Profile>() -> usize
     ensures { result ≡ key_length P.NUMBERS }
 {

@@ -1,4 +1,5 @@
-// Messages: how an offer, an answer and a confirmation are written from their parts and read back.
+//! Messages: how an offer, an answer and a confirmation are written from their parts and read back.
+
 #![tactic(auto)]
 
 mod fault;
@@ -20,7 +21,7 @@ pub use lengths::{
     HEAD_LENGTH, SEED_LENGTH, answer_length, confirmation_length, key_length, offer_length,
     signals_length, values_length,
 };
-pub use line::bench_line;
+pub use line::hexadecimal_line;
 pub use parts::{Answer, Confirmation, Offer};
 pub use reading::{read_answer, read_confirmation, read_offer};
 pub use section::{AnswerSections, ConfirmationSections, OfferSections, Section};

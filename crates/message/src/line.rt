@@ -1,13 +1,14 @@
-// Lines that show bytes.
+//! Lines that show bytes.
+
 ghost use Rattle.std.specs.Prelude.{◌≡◌, length};
 ghost use Rattle.ring.specs.Faults.{after};
-ghost use Rattle.message.specs.Lines.{LineMeans, line, line_answer};
+ghost use Rattle.message.specs.Lines.{LineMeans, line, hexadecimal_line_outcome};
 
 use ring::Fault;
 
-// Writes the line that shows bytes under a word into `out`, which has to have its length.
-pub fn bench_line(word: &str, bytes: &[u8], out: &mut [u8]) -> Result<(), Fault>
-    ensures answer { result ≡ line_answer word.now bytes.now (length out.old) }
+/// Writes the line that shows bytes under a word into `out`, which has to have its length.
+pub fn hexadecimal_line(word: &str, bytes: &[u8], out: &mut [u8]) -> Result<(), Fault>
+    ensures outcome { result ≡ hexadecimal_line_outcome word.now bytes.now (length out.old) }
     ensures means { LineMeans word.now bytes.now (length out.old) result }
     ensures writes { out.new ≡ after result (line word.now bytes.now) out.old }
 {

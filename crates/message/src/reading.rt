@@ -1,4 +1,5 @@
-// Reading messages back to their sections.
+//! Reading messages back to their sections.
+
 ghost use Rattle.std.specs.Prelude.{◌≡◌, ◌+◌, ◌^◌, ◌<◌, ◌≤◌, IfOk, [], length};
 ghost use Rattle.std.specs.Result.{result_err};
 ghost use Rattle.ring.specs.Faults.{told};
@@ -16,9 +17,9 @@ use crate::lengths::{HEAD_LENGTH, SEED_LENGTH, signals_length, values_length};
 use crate::section::{AnswerSections, ConfirmationSections, OfferSections, Section};
 use profile::Profile;
 
-// Reads a message as an offer.
+/// Reads a message as an offer.
 pub fn read_offer<P: Profile>(message: &[u8]) -> Result<OfferSections<'_>, Fault>
-    ensures answer { told (parts_of_offer P.NUMBERS) result ≡ reading P.NUMBERS Offer message.now }
+    ensures outcome { told (parts_of_offer P.NUMBERS) result ≡ reading P.NUMBERS Offer message.now }
     ensures fault { result_err result ≡ reading_fault P.NUMBERS Offer message.now }
     ensures means { ReadingMeans P.NUMBERS Offer message.now (told (parts_of_offer P.NUMBERS) result) }
     ensures sections { IfOk result (λ o. IsOffer P.NUMBERS message.entry o) }
@@ -38,9 +39,9 @@ pub fn read_offer<P: Profile>(message: &[u8]) -> Result<OfferSections<'_>, Fault
     })
 }
 
-// Reads a message as an answer.
+/// Reads a message as an answer.
 pub fn read_answer<P: Profile>(message: &[u8]) -> Result<AnswerSections<'_>, Fault>
-    ensures answer { told (parts_of_answer P.NUMBERS) result ≡ reading P.NUMBERS Answer message.now }
+    ensures outcome { told (parts_of_answer P.NUMBERS) result ≡ reading P.NUMBERS Answer message.now }
     ensures fault { result_err result ≡ reading_fault P.NUMBERS Answer message.now }
     ensures means { ReadingMeans P.NUMBERS Answer message.now (told (parts_of_answer P.NUMBERS) result) }
     ensures sections { IfOk result (λ a. IsAnswer P.NUMBERS message.entry a) }
@@ -61,9 +62,9 @@ pub fn read_answer<P: Profile>(message: &[u8]) -> Result<AnswerSections<'_>, Fau
     })
 }
 
-// Reads a message as a confirmation.
+/// Reads a message as a confirmation.
 pub fn read_confirmation<P: Profile>(message: &[u8]) -> Result<ConfirmationSections<'_>, Fault>
-    ensures answer { told parts_of_confirmation result ≡ reading P.NUMBERS Confirmation message.now }
+    ensures outcome { told parts_of_confirmation result ≡ reading P.NUMBERS Confirmation message.now }
     ensures fault { result_err result ≡ reading_fault P.NUMBERS Confirmation message.now }
     ensures means { ReadingMeans P.NUMBERS Confirmation message.now (told parts_of_confirmation result) }
     ensures sections { IfOk result (λ c. IsConfirmation message.entry c) }
@@ -75,7 +76,7 @@ pub fn read_confirmation<P: Profile>(message: &[u8]) -> Result<ConfirmationSecti
     Ok(ConfirmationSections { round, head })
 }
 
-// The section of so many bytes whose count is at `at`, and where it ends.
+/// The section of so many bytes whose count is at `at`, and where it ends.
 fn read_section<'m>(
     message: &'m [u8],
     at: usize,
@@ -102,7 +103,7 @@ fn read_section<'m>(
     Ok((Section { offset, bytes }, end))
 }
 
-// That nothing comes after the last section.
+/// That nothing comes after the last section.
 fn check_end(message: &[u8], at: usize) -> Result<(), Fault>
     ensures { result_err result ≡ shape_fault at [] message.now }
 {
@@ -112,7 +113,7 @@ fn check_end(message: &[u8], at: usize) -> Result<(), Fault>
     Ok(())
 }
 
-// The round that the head tells, if its other bytes are those of the kind and the profile.
+/// The round that the head tells, if its other bytes are those of the kind and the profile.
 fn read_head<P: Profile>(kind: Kind, head: &[u8]) -> Result<u32, Fault>
     requires { length head.now ≡ 7 }
     ensures fault { result_err result ≡ head_fault P.NUMBERS kind head.now }
@@ -133,7 +134,7 @@ fn read_head<P: Profile>(kind: Kind, head: &[u8]) -> Result<u32, Fault>
     Ok(u32::from_le_bytes([*r0, *r1, *r2, *r3]))
 }
 
-// That no bit is set after those of n signals, which begin at an offset: the last byte may have some.
+/// That no bit is set after those of n signals, which begin at an offset: the last byte may have some.
 fn check_spare_bits<P: Profile>(offset: usize, signals: &[u8]) -> Result<(), Fault>
     requires long { length signals.now ≡ signals_length P.NUMBERS }
     requires inside { offset + length signals.now < 2 ^ 64 }

@@ -1,4 +1,5 @@
-// How a section is written into its place of a message.
+//! How a section is written into its place of a message.
+
 ghost use Rattle.std.specs.Prelude.{◌≡◌, ◌+◌, ◌^◌, ◌<◌, ◌≤◌, length};
 ghost use Rattle.packing.specs.Lengths.{packed_length};
 ghost use Rattle.packing.specs.Packing.{AllFit, packed};
@@ -7,7 +8,7 @@ ghost use Rattle.message.specs.Sections.{written_at};
 
 use packing::Fields;
 
-// Writes the count of a section's bytes at `at`. The result is where the bytes begin.
+/// Writes the count of a section's bytes at `at`. The result is where the bytes begin.
 fn write_count(out: &mut [u8], at: usize, count: usize) -> usize
     requires inside { at + 2 ≤ length out.old }
     requires counted { count < 2 ^ 16 }
@@ -19,7 +20,7 @@ fn write_count(out: &mut [u8], at: usize, count: usize) -> usize
     start
 }
 
-// Writes a section at `at`, its count and its bytes. The result is where the section ends.
+/// Writes a section at `at`, its count and its bytes. The result is where the section ends.
 #[tactic(auto, using(packing::proofs::Splitting::bytes_fit))]
 pub(crate) fn write_section(out: &mut [u8], at: usize, contents: &[u8]) -> usize
     requires inside { at + 2 + length contents.now ≤ length out.old }
@@ -34,7 +35,7 @@ pub(crate) fn write_section(out: &mut [u8], at: usize, contents: &[u8]) -> usize
     end
 }
 
-// The same for numbers, which are packed into the section's own stretch of `out`.
+/// The same for numbers, which are packed into the section's own stretch of `out`.
 pub(crate) fn pack_section(out: &mut [u8], at: usize, bytes: usize, fields: Fields<'_>) -> usize
     requires long { bytes ≡ packed_length (length fields.numbers.now) fields.width.bits }
     requires inside { at + 2 + bytes ≤ length out.old }

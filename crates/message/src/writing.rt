@@ -1,10 +1,11 @@
-// Writing messages from their parts.
+//! Writing messages from their parts.
+
 ghost use Rattle.std.specs.Prelude.{◌≡◌, OnOk, Ok, length};
 ghost use Rattle.ring.specs.Faults.{after};
 ghost use Rattle.message.specs.Messages.{encoded, kind_of};
 ghost use Rattle.message.specs.Parts.{offer_of, answer_of, confirmation_of};
 ghost use Rattle.message.specs.Reading.{reading};
-ghost use Rattle.message.specs.Writing.{write_answer};
+ghost use Rattle.message.specs.Writing.{write_outcome};
 ghost use Rattle.message.specs.WritingLaws.{WriteMeans};
 
 use crate::head::head;
@@ -20,9 +21,9 @@ use profile::Profile;
 use ring::Fault;
 
 impl Offer<'_> {
-    // Writes the offer of these parts into `out`, or leaves it as it was.
+    /// Writes the offer of these parts into `out`, or leaves it as it was.
     pub fn write<P: Profile>(self, out: &mut [u8]) -> Result<(), Fault>
-        ensures answer { result ≡ write_answer P.NUMBERS (offer_of self.entry) (length out.old) }
+        ensures outcome { result ≡ write_outcome P.NUMBERS (offer_of self.entry) (length out.old) }
         ensures means { WriteMeans P.NUMBERS (offer_of self.entry) (length out.old) result }
         ensures writes { out.new ≡ after result (encoded P.NUMBERS (offer_of self.entry)) out.old }
         ensures reads_back { let message = offer_of self.entry in
@@ -48,9 +49,9 @@ impl Offer<'_> {
 }
 
 impl Answer<'_> {
-    // Writes the answer of these parts into `out`, or leaves it as it was.
+    /// Writes the answer of these parts into `out`, or leaves it as it was.
     pub fn write<P: Profile>(self, out: &mut [u8]) -> Result<(), Fault>
-        ensures answer { result ≡ write_answer P.NUMBERS (answer_of self.entry) (length out.old) }
+        ensures outcome { result ≡ write_outcome P.NUMBERS (answer_of self.entry) (length out.old) }
         ensures means { WriteMeans P.NUMBERS (answer_of self.entry) (length out.old) result }
         ensures writes { out.new ≡ after result (encoded P.NUMBERS (answer_of self.entry)) out.old }
         ensures reads_back { let message = answer_of self.entry in
@@ -82,9 +83,9 @@ impl Answer<'_> {
 }
 
 impl Confirmation {
-    // Writes the confirmation of this round into `out`, or leaves it as it was.
+    /// Writes the confirmation of this round into `out`, or leaves it as it was.
     pub fn write<P: Profile>(self, out: &mut [u8]) -> Result<(), Fault>
-        ensures answer { result ≡ write_answer P.NUMBERS (confirmation_of self) (length out.old) }
+        ensures outcome { result ≡ write_outcome P.NUMBERS (confirmation_of self) (length out.old) }
         ensures means { WriteMeans P.NUMBERS (confirmation_of self) (length out.old) result }
         ensures writes { out.new ≡ after result (encoded P.NUMBERS (confirmation_of self)) out.old }
         ensures reads_back { let message = confirmation_of self in

@@ -1,4 +1,5 @@
-// Messages as they are written from their parts, and read back to them.
+//! Messages as they are written from their parts, and read back to them.
+
 use crate::parts::{ANSWER, CONFIRMATION, OFFER, SEED};
 use house::{House, S, T, W};
 use message::{
@@ -18,7 +19,7 @@ fn is_stretch(rt: &impl Abort, section: Section<'_>, offset: usize, bytes: &[u8]
     assert_eq!(rt; section.bytes, bytes);
 }
 
-// Unpacks four numbers.
+/// Unpacks four numbers.
 fn unpacks_to(rt: &impl Abort, width: Width, section: Section<'_>, expected: [u32; 4]) {
     let mut numbers = [9; 4];
     assert_eq!(rt; width.unpack(section.bytes, &mut numbers), Ok(()));
@@ -90,7 +91,7 @@ fn worked_confirmation_is_read(rt: HostRuntime) -> Result<(), Fail> {
     Ok(())
 }
 
-// By every profile a confirmation is its head, which tells the round with its lowest byte first.
+/// By every profile a confirmation is its head, which tells the round with its lowest byte first.
 fn confirms<P: Profile>(rt: &impl Abort, numbers: u8, reconciler: u8) {
     let mut out = [0; 9];
     let confirmation = Confirmation { round: 0x04030201 };

@@ -1,7 +1,8 @@
-// What docs/MESSAGES.md states of each house profile.
+//! What docs/MESSAGES.md states of each house profile.
+
 use message::Kind;
 
-// A section: where its count is, where its bytes begin, and how many they are.
+/// A section: where its count is, where its bytes begin, and how many they are.
 #[derive(Clone, Copy)]
 pub struct Place {
     pub count: u16,
@@ -12,7 +13,7 @@ pub struct Place {
 #[derive(Clone, Copy)]
 pub struct Expected {
     pub n: u16,
-    // the largest rounded value and the largest signal
+    /// the largest rounded value and the largest signal
     pub value: u16,
     pub signal: u16,
     pub offer: [Place; 3],

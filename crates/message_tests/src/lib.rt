@@ -1,5 +1,6 @@
-// Tests of packing and of messages. What is expected is the worked example of docs/MESSAGES.md and its tables, was computed by hand, or is from
-// reference/messages.py, a second implementation. Nothing of it is the library's own output: only messages to damage are.
+//! Tests of packing and of messages. What is expected is the worked example of docs/MESSAGES.md and its tables, was computed by hand, or is from
+//! reference/messages.py, a second implementation. Nothing of it is the library's own output: only messages to damage are.
+
 #![tactic(auto)]
 
 #[cfg(test)]

@@ -1,10 +1,11 @@
-// Bench lines.
-use message::bench_line;
+//! Bench lines.
+
+use message::hexadecimal_line;
 use ring::Fault;
 use std::process::Abort;
 use std::test::Fail;
 
-// The line of these bytes is the expected text, and no buffer of another length will do.
+/// The line of these bytes is the expected text, and no buffer of another length will do.
 fn is_line(
     rt: &(impl Abort + AllocGlobal),
     word: &str,
@@ -13,7 +14,7 @@ fn is_line(
 ) -> Result<(), Fail> {
     let length = expected.len();
     let mut out = vec![in rt.alloc(); 0xa5u8; length]?;
-    bench_line(word, bytes, &mut out)?;
+    hexadecimal_line(word, bytes, &mut out)?;
     assert_eq!(rt; out.as_slice(), expected);
     for room in [
         0,
@@ -24,7 +25,7 @@ fn is_line(
     ] {
         let mut out = vec![in rt.alloc(); 0xa5u8; room]?;
         assert_eq!(rt;
-            bench_line(word, bytes, &mut out),
+            hexadecimal_line(word, bytes, &mut out),
             Err(Fault::WrongLength(4))
         );
         assert!(rt; out.iter().all(|byte| *byte == 0xa5));

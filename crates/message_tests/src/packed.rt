@@ -1,4 +1,5 @@
-// Packing, at bytes that were computed by hand.
+//! Packing, at bytes that were computed by hand.
+
 use packing::{Fields, Width};
 use ring::Fault;
 use std::process::Abort;
@@ -8,7 +9,7 @@ fn width(bits: u32) -> Result<Width, Fail> {
     Ok(Width::new(bits).ok_or("no width")?)
 }
 
-// The numbers are these bytes, and the bytes these numbers.
+/// The numbers are these bytes, and the bytes these numbers.
 fn packs_to<const M: usize, const B: usize>(
     rt: &impl Abort,
     bits: u32,
@@ -73,7 +74,7 @@ fn eight_numbers_and_one(rt: HostRuntime) -> Result<(), Fail> {
     )
 }
 
-// A key at T: one bit for each of four.
+/// A key at T: one bit for each of four.
 #[test]
 fn key_bits(rt: HostRuntime) -> Result<(), Fail> {
     packs_to(&rt, 1, [0, 1, 1, 1], [0x0e])
@@ -114,7 +115,7 @@ fn first_number_that_does_not_fit_is_named(rt: HostRuntime) -> Result<(), Fail> 
     Ok(())
 }
 
-// Four numbers of 6 bits take three bytes.
+/// Four numbers of 6 bits take three bytes.
 #[test]
 fn rooms_of_other_lengths(rt: HostRuntime) -> Result<(), Fail> {
     let fields = Fields::check(width(6)?, &[24, 48, 1, 0]).map_err(Fault::OutOfRange)?;

@@ -1,4 +1,5 @@
-// What reading refuses.
+//! What reading refuses.
+
 use crate::expected::{Expected, by_each_profile};
 use crate::parts::{ANSWER, CONFIRMATION, KINDS, OFFER, refusal, written};
 use house::{House, S, T, W};
@@ -9,7 +10,7 @@ use std::alloc::{AllocError, Global};
 use std::process::Abort;
 use std::test::Fail;
 
-// A message with another byte at an offset.
+/// A message with another byte at an offset.
 fn with_byte(
     rt: &(impl Abort + AllocGlobal),
     message: &[u8],
@@ -22,20 +23,20 @@ fn with_byte(
     Ok(message)
 }
 
-// With a further byte.
+/// With a further byte.
 fn extended(alloc: Global, message: &[u8]) -> Result<Vec<u8>, AllocError> {
     let mut message = message.to_vec(alloc)?;
     message.push(0)?;
     Ok(message)
 }
 
-// The first bytes of a message.
+/// The first bytes of a message.
 fn cut<'m>(rt: &impl Abort, message: &'m [u8], length: usize) -> &'m [u8] {
     assert!(rt; length <= message.len());
     &message[..length]
 }
 
-// A message is cut to each shorter length, and so is one with a wrong head.
+/// A message is cut to each shorter length, and so is one with a wrong head.
 fn refuses_cuts<P: Profile>(
     rt: &(impl Abort + AllocGlobal),
     expected: &Expected,
@@ -70,7 +71,7 @@ fn cut_messages(rt: HostRuntime) -> Result<(), Fail> {
     by_each_profile!(refuses_cuts, &rt)
 }
 
-// Each count is wrong. What comes after it is not looked at, and neither are the bytes of the head.
+/// Each count is wrong. What comes after it is not looked at, and neither are the bytes of the head.
 fn refuses_counts<P: Profile>(
     rt: &(impl Abort + AllocGlobal),
     expected: &Expected,
@@ -106,7 +107,7 @@ fn wrong_counts(rt: HostRuntime) -> Result<(), Fail> {
     by_each_profile!(refuses_counts, &rt)
 }
 
-// There are further bytes.
+/// There are further bytes.
 fn refuses_more<P: Profile>(
     rt: &(impl Abort + AllocGlobal),
     expected: &Expected,
@@ -129,7 +130,7 @@ fn further_bytes(rt: HostRuntime) -> Result<(), Fail> {
     by_each_profile!(refuses_more, &rt)
 }
 
-// Each byte of the head that tells the kind or the profile is every other byte, alone and with those after it.
+/// Each byte of the head that tells the kind or the profile is every other byte, alone and with those after it.
 fn refuses_heads<P: Profile>(
     rt: &(impl Abort + AllocGlobal),
     _expected: &Expected,
@@ -185,7 +186,7 @@ fn spare_bits_of_t_with_ding(rt: HostRuntime) -> Result<(), Fail> {
     Ok(())
 }
 
-// No other message has any: its last byte may be all ones.
+/// No other message has any: its last byte may be all ones.
 fn has_no_spare_bits<P: Profile>(rt: &(impl Abort + AllocGlobal), kind: Kind) -> Result<(), Fail> {
     let message = written::<P>(rt.alloc(), kind)?;
     assert!(rt; message.len() > 0);
@@ -205,7 +206,7 @@ fn no_other_spare_bits(rt: HostRuntime) -> Result<(), Fail> {
     has_no_spare_bits::<House<W, Okcn>>(&rt, Kind::Answer)
 }
 
-// A message of each kind is read as each other.
+/// A message of each kind is read as each other.
 fn refuses_other_kinds<P: Profile>(
     rt: &(impl Abort + AllocGlobal),
     _expected: &Expected,
@@ -226,7 +227,7 @@ fn other_kinds(rt: HostRuntime) -> Result<(), Fail> {
     by_each_profile!(refuses_other_kinds, &rt)
 }
 
-// Messages of Q are read by P: an offer, an answer and a confirmation.
+/// Messages of Q are read by P: an offer, an answer and a confirmation.
 fn refuses_those_of<P: Profile, Q: Profile>(
     rt: &(impl Abort + AllocGlobal),
     faults: [Fault; 3],
@@ -238,7 +239,7 @@ fn refuses_those_of<P: Profile, Q: Profile>(
     Ok(())
 }
 
-// The reconciler byte is another, and the signals of an answer may have another length.
+/// The reconciler byte is another, and the signals of an answer may have another length.
 #[test]
 fn other_reconcilers(rt: HostRuntime) -> Result<(), Fail> {
     let head = Fault::WrongHead(4);
@@ -253,7 +254,7 @@ fn other_reconcilers(rt: HostRuntime) -> Result<(), Fail> {
     refuses_those_of::<House<W, Okcn>, House<W, Ding>>(&rt, at_w)
 }
 
-// The rounded values have another length, and the numbers byte is another.
+/// The rounded values have another length, and the numbers byte is another.
 #[test]
 fn other_number_sets(rt: HostRuntime) -> Result<(), Fail> {
     let faults = [
@@ -269,7 +270,7 @@ fn other_number_sets(rt: HostRuntime) -> Result<(), Fail> {
     refuses_those_of::<House<W, Okcn>, House<S, Okcn>>(&rt, faults)
 }
 
-// The table of readings of the worked example, by T with Ding.
+/// The table of readings of the worked example, by T with Ding.
 #[test]
 fn worked_readings(rt: HostRuntime) -> Result<(), Fail> {
     let (offer, answer, confirmation) = (

@@ -1,4 +1,5 @@
-// What writing refuses. The faults are in the order in which they are tried.
+//! What writing refuses. The faults are in the order in which they are tried.
+
 use crate::expected::{Expected, by_each_profile};
 use crate::parts::{SEED, repeated};
 use message::{Answer, Confirmation, Kind, Offer};
@@ -8,7 +9,7 @@ use std::alloc::AllocError;
 use std::process::Abort;
 use std::test::Fail;
 
-// An offer is refused, and the buffer stays as it was.
+/// An offer is refused, and the buffer stays as it was.
 fn refuses_offer<P: Profile>(
     rt: &(impl Abort + AllocGlobal),
     values: &[u32],
@@ -44,7 +45,7 @@ fn refuses_answer<P: Profile>(
     Ok(())
 }
 
-// A list with another number at an index.
+/// A list with another number at an index.
 fn but_for(
     rt: &(impl Abort + AllocGlobal),
     list: &[u32],
@@ -57,7 +58,7 @@ fn but_for(
     Ok(list)
 }
 
-// A list is refused before the buffer, and a length before a number out of range.
+/// A list is refused before the buffer, and a length before a number out of range.
 fn refuses_lengths<P: Profile>(
     rt: &(impl Abort + AllocGlobal),
     expected: &Expected,
@@ -109,7 +110,7 @@ fn lengths_in_order(rt: HostRuntime) -> Result<(), Fail> {
     by_each_profile!(refuses_lengths, &rt)
 }
 
-// The first number out of range is named, and the signals count on from n. All others are the largest that there are.
+/// The first number out of range is named, and the signals count on from n. All others are the largest that there are.
 fn refuses_numbers<P: Profile>(
     rt: &(impl Abort + AllocGlobal),
     expected: &Expected,

@@ -1,12 +1,12 @@
 -- What each answer of a multiplication says of the lists and buffers.
 use Rattle.std.proofs.Common.{◌≡◌, ℕ, ◌≤◌, eqb, leb, List, length, Ok, Result, refl, sym, ◌∙◌, subst, inl, inr, arith}
 use Rattle.std.proofs.lemmas.Bool.{cond-true, cond_both, eq-eqb, le-leb, eqb-true, eqb-false, leb-true, leb-false}
-use Rattle.ring.specs.Elements.{front_below}
-use Rattle.ring.proofs.Elements.{all_below, first_not_below, front_passed}
+use Rattle.ring.specs.Elements.{first_not_below}
+use Rattle.ring.proofs.Elements.{all_below, is_first_not_below, all_below_passes}
 use Rattle.ring.specs.declared.fault.Fault.{Fault}
-use Rattle.multiplier.specs.Multipliers.{Fitting, LengthsFit, MultiplyMeans, multiply_answer}
+use Rattle.multiplier.specs.Multipliers.{Fitting, LengthsFit, MultiplyMeans, multiply_outcome}
 
-pub multiply_means : (n q need : ℕ) (left right : List ℕ) (scratch output : ℕ) → MultiplyMeans n q need left right scratch output (multiply_answer n q need left right scratch output)
+pub multiply_means : (n q need : ℕ) (left right : List ℕ) (scratch output : ℕ) → MultiplyMeans n q need left right scratch output (multiply_outcome n q need left right scratch output)
 multiply_means n q need left right scratch output =
     let Means = MultiplyMeans n q need left right scratch output in
     cond_both (eqb (length left) n) _ _ Means
@@ -26,33 +26,33 @@ multiply_means n q need left right scratch output =
       scratch_long = scratch_long;
       output_long = eqb-true _ _ output_is;
     } in
-    cond_both (leb n (front_below q left)) _ _ Means
+    cond_both (leb n (first_not_below q left)) _ _ Means
     (λ reaches.
     let left_below = all_below q left (omega (arith, leb-true _ _ reaches)) in
-    cond_both (leb n (front_below q right)) _ _ Means
+    cond_both (leb n (first_not_below q right)) _ _ Means
     (λ far. record {
       lengths = fit;
       left_below = left_below;
       right_below = all_below q right (omega (arith, leb-true _ _ far));
     })
-    (λ stops. (fit, inr (left_below, (front_below q right, refl, first_not_below q right (omega (arith, leb-false _ _ stops)))))))
-    (λ stops. (fit, inl (first_not_below q left (omega (arith, leb-false _ _ stops))))))
+    (λ stops. (fit, inr (left_below, (first_not_below q right, refl, is_first_not_below q right (omega (arith, leb-false _ _ stops)))))))
+    (λ stops. (fit, inl (is_first_not_below q left (omega (arith, leb-false _ _ stops))))))
     (λ other. inr (left_long, inr (right_long, inr (scratch_long, refl, eqb-false _ _ other)))))
     (λ short. inr (left_long, inr (right_long, inl (refl, leb-false _ _ short)))))
     (λ other. inr (left_long, inl (refl, eqb-false _ _ other))))
     (λ other. inl (refl, eqb-false _ _ other))
 
 -- what an answer that is the defined one says
-pub answer_means : (n q need : ℕ) (left right : List ℕ) (scratch output : ℕ) (answer : Result (Unit {0}) Fault) → answer ≡ multiply_answer n q need left right scratch output → MultiplyMeans n q need left right scratch output answer
-answer_means n q need left right scratch output answer is =
+pub outcome_means : (n q need : ℕ) (left right : List ℕ) (scratch output : ℕ) (answer : Result (Unit {0}) Fault) → answer ≡ multiply_outcome n q need left right scratch output → MultiplyMeans n q need left right scratch output answer
+outcome_means n q need left right scratch output answer is =
     subst (MultiplyMeans n q need left right scratch output) (sym is) (multiply_means n q need left right scratch output)
 
-pub fitting_is_accepted : (n q need : ℕ) (left right : List ℕ) (scratch output : ℕ) → Fitting n q need left right scratch output → multiply_answer n q need left right scratch output ≡ Ok tt
+pub fitting_is_accepted : (n q need : ℕ) (left right : List ℕ) (scratch output : ℕ) → Fitting n q need left right scratch output → multiply_outcome n q need left right scratch output ≡ Ok tt
 fitting_is_accepted n q need left right scratch output fitting =
     let fit = fitting.lengths in
     cond-true _ _ _ (eq-eqb (length left) n fit.left_long)
     ∙ cond-true _ _ _ (eq-eqb (length right) n fit.right_long)
     ∙ cond-true _ _ _ (le-leb need scratch fit.scratch_long)
     ∙ cond-true _ _ _ (eq-eqb output n fit.output_long)
-    ∙ cond-true _ _ _ (front_passed q n left fit.left_long fitting.left_below)
-    ∙ cond-true _ _ _ (front_passed q n right fit.right_long fitting.right_below)
+    ∙ cond-true _ _ _ (all_below_passes q n left fit.left_long fitting.left_below)
+    ∙ cond-true _ _ _ (all_below_passes q n right fit.right_long fitting.right_below)

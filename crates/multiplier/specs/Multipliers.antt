@@ -1,7 +1,7 @@
 -- What a multiplier is, what it answers, and what its buffers then hold.
 use Rattle.std.specs.Prelude.{◌≡◌, ℕ, ◌+◌, ◌^◌, ◌<◌, ◌≤◌, ◌⊎◌, ◌==◌, ◌≢◌, nat_le}
 use Rattle.std.specs.Prelude.{List, length, Some, None, Ok, Err, Option, Result}
-use Rattle.ring.specs.Elements.{AllBelow, FirstNotBelow, front_below}
+use Rattle.ring.specs.Elements.{AllBelow, FirstNotBelow, first_not_below}
 use Rattle.ring.specs.Faults.{checked}
 use Rattle.ring.specs.Residues.{IsModulus}
 use Rattle.ring.specs.declared.fault.Fault.{Fault}
@@ -23,14 +23,14 @@ ring_from n q (Some ring) = (ring.degree ≡ n) × (ring.modulus.q ≡ q) × IsD
 ring_from n q None = IsDegree n × IsModulus q → ⊥
 
 -- what is answered to two lists, and to scratch and an output of so many words
-abbrev pub multiply_answer : (n q need : ℕ) (left right : List ℕ) (scratch output : ℕ) → Result (Unit {0}) Fault
-multiply_answer n q need left right scratch output =
+abbrev pub multiply_outcome : (n q need : ℕ) (left right : List ℕ) (scratch output : ℕ) → Result (Unit {0}) Fault
+multiply_outcome n q need left right scratch output =
     checked (length left == n) (WrongLength 1)
     (checked (length right == n) (WrongLength 2)
     (checked (nat_le need scratch) (WrongLength 3)
     (checked (output == n) (WrongLength 4)
-    (checked (nat_le n (front_below q left)) (OutOfRange (front_below q left))
-    (checked (nat_le n (front_below q right)) (OutOfRange (n + front_below q right))
+    (checked (nat_le n (first_not_below q left)) (OutOfRange (first_not_below q left))
+    (checked (nat_le n (first_not_below q right)) (OutOfRange (n + first_not_below q right))
     (Ok tt))))))
 
 -- the two lists, scratch and the output are as long as they have to be
@@ -76,11 +76,11 @@ MultiplyMeans n q need left right scratch output (Err (SourceSpent place)) = ⊥
 abbrev pub MultiplyRefusesTheFirst : Type 0
 MultiplyRefusesTheFirst =
     (n q need : ℕ) (left right : List ℕ) (scratch output : ℕ)
-    → MultiplyMeans n q need left right scratch output (multiply_answer n q need left right scratch output)
+    → MultiplyMeans n q need left right scratch output (multiply_outcome n q need left right scratch output)
 
 -- and what fits is accepted
 abbrev pub MultiplyAcceptsWhatFits : Type 0
 MultiplyAcceptsWhatFits =
     (n q need : ℕ) (left right : List ℕ) (scratch output : ℕ)
     → Fitting n q need left right scratch output
-    → multiply_answer n q need left right scratch output ≡ Ok tt
+    → multiply_outcome n q need left right scratch output ≡ Ok tt

@@ -1,9 +1,10 @@
-// The two lists that a method of multiplication is handed, as a type that holds no others.
+//! The two lists that a method of multiplication is handed, as a type that holds no others.
+
 ghost use Rattle.multiplier.specs.Sums.{AreFactors};
 
 use ring::Modulus;
 
-// Two lists of one length, at most 1024, of numbers below the modulus.
+/// Two lists of one length, at most 1024, of numbers below the modulus.
 #[derive(Clone, Copy)]
 pub struct Factors<'a> {
     pub(crate) left: &'a [u32],

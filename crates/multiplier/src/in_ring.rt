@@ -1,4 +1,5 @@
-// A method of multiplication in one ring is a multiplier.
+//! A method of multiplication in one ring is a multiplier.
+
 ghost use Rattle.std.specs.Prelude.{◌≡◌, ◌*◌};
 ghost use Rattle.multiplier.specs.LawProofs.{in_range};
 
@@ -9,7 +10,7 @@ use crate::quotient::QuotientRing;
 use ring::{Fault, ScratchGuard};
 use std::marker::PhantomData;
 
-// Multiplies elements of a ring by the method M.
+/// Multiplies elements of a ring by the method M.
 #[derive(Clone, Copy)]
 pub struct InRing<M> {
     ring: QuotientRing,
@@ -48,7 +49,7 @@ impl<M: Method> Multiplier for InRing<M> {
         M::WORDS * self.ring.degree()
     }
 
-    #[tactic(auto, using(crate::proofs::Refusals::answer_means, crate::proofs::Written::product_is_element))]
+    #[tactic(auto, using(crate::proofs::Refusals::outcome_means, crate::proofs::Written::product_is_element))]
     fn multiply(
         &mut self,
         left: &[u32],

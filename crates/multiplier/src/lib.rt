@@ -1,4 +1,5 @@
-// Multiplying ring elements: what a multiplier promises, and two of them.
+//! Multiplying ring elements: what a multiplier promises, and two of them.
+
 #![tactic(auto)]
 
 mod checks;

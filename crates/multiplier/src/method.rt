@@ -1,17 +1,18 @@
-// A method of multiplication.
+//! A method of multiplication.
+
 ghost use Rattle.std.specs.Prelude.{◌≡◌, ℕ, ◌*◌, ◌≤◌, length};
 ghost use Rattle.multiplier.specs.Methods.{product_of};
 
 use crate::factors::Factors;
 
-// How the product of two accepted lists is found.
+/// How the product of two accepted lists is found.
 pub trait Method {
     // how many words of scratch it needs for each coefficient
     ghost WORDS: { ℕ };
 
     const WORDS: usize;
 
-    // Writes the product, whatever the words and the output held before.
+    /// Writes the product, whatever the words and the output held before.
     fn write_product(factors: Factors<'_>, words: &mut [u32], output: &mut [u32])
         requires words_long { length words.old ≡ WORDS * length factors.left.now }
         requires output_long { length output.old ≡ length factors.left.now }

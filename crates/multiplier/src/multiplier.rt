@@ -1,14 +1,15 @@
-// What a multiplier is to generic code.
+//! What a multiplier is to generic code.
+
 ghost use Rattle.std.specs.Prelude.{◌≡◌, ℕ, length, OnOk};
 ghost use Rattle.element.specs.Products.{product};
 ghost use Rattle.ring.specs.Elements.{IsElement};
 ghost use Rattle.ring.specs.Faults.{after};
 ghost use Rattle.ring.specs.Scratch.{zeroed};
-ghost use Rattle.multiplier.specs.Multipliers.{InRange, MultiplyMeans, multiply_answer};
+ghost use Rattle.multiplier.specs.Multipliers.{InRange, MultiplyMeans, multiply_outcome};
 
 use ring::Fault;
 
-// Multiplies elements of one ring.
+/// Multiplies elements of one ring.
 pub trait Multiplier: Drop {
     // the degree and the modulus of the ring
     ghost n: { Self → ℕ };
@@ -27,7 +28,7 @@ pub trait Multiplier: Drop {
     fn scratch_words(&self) -> usize
         ensures { result ≡ need self.now };
 
-    // Writes the product of two elements, or refuses and leaves the output as it was. Scratch is zero afterwards.
+    /// Writes the product of two elements, or refuses and leaves the output as it was. Scratch is zero afterwards.
     fn multiply(
         &mut self,
         left: &[u32],
@@ -35,7 +36,7 @@ pub trait Multiplier: Drop {
         scratch: &mut [u32],
         output: &mut [u32],
     ) -> Result<(), Fault>
-        ensures answer { result ≡ multiply_answer (n self.old) (q self.old) (need self.old) left.now right.now
+        ensures outcome { result ≡ multiply_outcome (n self.old) (q self.old) (need self.old) left.now right.now
             (length scratch.old) (length output.old) }
         ensures means { MultiplyMeans (n self.old) (q self.old) (need self.old) left.now right.now
             (length scratch.old) (length output.old) result }

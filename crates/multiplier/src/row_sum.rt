@@ -1,4 +1,5 @@
-// The row sum: for each left coefficient a multiple of a row of the right list.
+//! The row sum: for each left coefficient a multiple of a row of the right list.
+
 ghost use Rattle.std.specs.Prelude.{◌≡◌, ℕ, ◌+◌, ◌*◌, ◌%◌, ◌^◌, ◌<◌, ◌≤◌};
 ghost use Rattle.std.specs.Prelude.{◌++◌, map, length, slice_index};
 ghost use Rattle.multiplier.specs.Methods.{product_of, row_sum};
@@ -9,18 +10,18 @@ use crate::in_ring::InRing;
 use crate::method::Method;
 use crate::rows::Rows;
 
-// Multiplies by adding multiples of rows, with 2n words of scratch: the right list negated, then the right list. The n
-// words from place n - i on are the right list times x^i.
+/// Multiplies by adding multiples of rows, with 2n words of scratch: the right list negated, then the right list. The n
+/// words from place n - i on are the right list times x^i.
 pub type RowSum = InRing<ByRow>;
 
-// The method that adds for each left coefficient a multiple of a row.
+/// The method that adds for each left coefficient a multiple of a row.
 #[derive(Clone, Copy)]
 pub struct ByRow;
 
-// So many 64-bit sums are added up at a time, few enough for registers.
+/// So many 64-bit sums are added up at a time, few enough for registers.
 const TILE: usize = 4;
 
-// Adds x times the row to the sums.
+/// Adds x times the row to the sums.
 fn add_multiple(sums: &mut [u64], x: u32, row: &[u32])
     requires long { length row.now ≡ length sums.old }
     requires fits { (t : ℕ) → t < length sums.old → slice_index sums.old t + x * slice_index row.now t < 2 ^ 64 }
@@ -33,7 +34,7 @@ fn add_multiple(sums: &mut [u64], x: u32, row: &[u32])
 }
 
 impl<'a> Rows<'a> {
-    // Writes the right list negated modulo q, then the right list, and takes the rows from these words.
+    /// Writes the right list negated modulo q, then the right list, and takes the rows from these words.
     #[tactic(auto, using(crate::proofs::Written::rows))]
     fn from_factors(factors: Factors<'a>, words: &'a mut [u32]) -> Self
         requires { length words.old ≡ 2 * length factors.left.now }
@@ -60,7 +61,7 @@ impl<'a> Rows<'a> {
         }
     }
 
-    // Adds all rows to the sums, which are those of the coefficients from `start` on.
+    /// Adds all rows to the sums, which are those of the coefficients from `start` on.
     #[tactic(auto, using(crate::proofs::RowSums::row_steps))]
     fn add_to(self, sums: &mut [u64], start: usize)
         requires inside { start + length sums.old ≤ length self.left.now }
@@ -77,7 +78,7 @@ impl<'a> Rows<'a> {
         }
     }
 
-    // Writes the N coefficients from `start` on.
+    /// Writes the N coefficients from `start` on.
     fn write_tile<const N: usize>(self, start: usize, output: &mut [u32])
         requires tile { length output.old ≡ N }
         requires inside { start + N ≤ length self.left.now }
@@ -92,7 +93,7 @@ impl<'a> Rows<'a> {
         }
     }
 
-    // Writes the row sums modulo q, a tile at a time, and what is less than a tile one by one.
+    /// Writes the row sums modulo q, a tile at a time, and what is less than a tile one by one.
     fn write_sums(self, output: &mut [u32])
         requires { length output.old ≡ length self.left.now }
         ensures { (k : ℕ) → k < length output.old

@@ -1,4 +1,5 @@
-// The schoolbook product: for each coefficient in turn its sum.
+//! The schoolbook product: for each coefficient in turn its sum.
+
 ghost use Rattle.std.specs.Prelude.{◌≡◌, ◌*◌, ◌^◌, ◌<◌, length, reverse, sum_by, zip};
 ghost use Rattle.multiplier.specs.Methods.{coefficient_of, product_of};
 
@@ -6,14 +7,14 @@ use crate::factors::Factors;
 use crate::in_ring::InRing;
 use crate::method::Method;
 
-// Multiplies by the sum for each coefficient, with no scratch.
+/// Multiplies by the sum for each coefficient, with no scratch.
 pub type Schoolbook = InRing<ByCoefficient>;
 
-// The method that takes the sum for each coefficient in turn.
+/// The method that takes the sum for each coefficient in turn.
 #[derive(Clone, Copy)]
 pub struct ByCoefficient;
 
-// The sum of left[i] right[m - 1 - i], for two lists of m numbers.
+/// The sum of left[i] right[m - 1 - i], for two lists of m numbers.
 fn reversed_dot(left: &[u32], right: &[u32]) -> u64
     requires { sum_by (λ p. p.0 * p.1) (zip left.now (reverse right.now)) < 2 ^ 64 }
     ensures { result ≡ sum_by (λ p. p.0 * p.1) (zip left.now (reverse right.now)) }
@@ -25,7 +26,7 @@ fn reversed_dot(left: &[u32], right: &[u32]) -> u64
 }
 
 impl Factors<'_> {
-    // The coefficient k of the product: the pairs with i + j = k, less those with i + j = k + n.
+    /// The coefficient k of the product: the pairs with i + j = k, less those with i + j = k + n.
     #[tactic(auto, using(crate::proofs::ReversedDots::difference_of_parts))]
     fn coefficient(self, k: usize) -> u32
         requires { k < length self.left.now }

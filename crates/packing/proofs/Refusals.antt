@@ -1,28 +1,28 @@
 -- What the answers of packing and unpacking mean, and that what is right is accepted.
 use Rattle.std.proofs.Common.{ℕ, ◌^◌, eqb, leb, List, length, refl, ◌∙◌}
 use Rattle.std.proofs.lemmas.Bool.{cond-true, cond_both, leb-true, leb-false, eq-eqb, eqb-true, eqb-false}
-use Rattle.ring.proofs.Elements.{all_below, first_not_below, front_passed}
+use Rattle.ring.proofs.Elements.{all_below, is_first_not_below, all_below_passes}
 use Rattle.packing.specs.Lengths.{packed_length}
-use Rattle.packing.specs.Packing.{front_fitting, pack_answer, pack_numbers_answer, unpack_answer}
+use Rattle.packing.specs.Packing.{front_fitting, pack_outcome, pack_numbers_outcome, unpack_outcome}
 use Rattle.packing.specs.Refusals.{PackMeans, PackNumbersMeans, PackingRefusals, PackingRefusesTheFirst, UnpackMeans}
 
 module _ (w : ℕ) where
-  pub pack_means : (xs : List ℕ) (room : ℕ) → PackMeans w xs room (pack_answer w xs room)
+  pub pack_means : (xs : List ℕ) (room : ℕ) → PackMeans w xs room (pack_outcome w xs room)
   pack_means xs room =
       cond_both (eqb room (packed_length (length xs) w)) _ _ (PackMeans w xs room)
       (λ same. eqb-true _ _ same)
       (λ other. (eqb-false _ _ other, refl))
 
-  pub pack_numbers_means : (xs : List ℕ) (room : ℕ) → PackNumbersMeans w xs room (pack_numbers_answer w xs room)
+  pub pack_numbers_means : (xs : List ℕ) (room : ℕ) → PackNumbersMeans w xs room (pack_numbers_outcome w xs room)
   pack_numbers_means xs room =
       cond_both (eqb room (packed_length (length xs) w)) _ _ (PackNumbersMeans w xs room)
       (λ same.
       cond_both (leb (length xs) (front_fitting w xs)) _ _ (PackNumbersMeans w xs room)
       (λ whole. (eqb-true _ _ same, all_below (2 ^ w) xs (leb-true _ _ whole)))
-      (λ stops. (eqb-true _ _ same, first_not_below (2 ^ w) xs (leb-false _ _ stops))))
+      (λ stops. (eqb-true _ _ same, is_first_not_below (2 ^ w) xs (leb-false _ _ stops))))
       (λ other. (eqb-false _ _ other, refl))
 
-  pub unpack_means : (bytes : List ℕ) (many : ℕ) → UnpackMeans w bytes many (unpack_answer w bytes many)
+  pub unpack_means : (bytes : List ℕ) (many : ℕ) → UnpackMeans w bytes many (unpack_outcome w bytes many)
   unpack_means bytes many =
       cond_both (eqb (length bytes) (packed_length many w)) _ _ (UnpackMeans w bytes many)
       (λ same. eqb-true _ _ same)
@@ -36,7 +36,7 @@ module _ (w : ℕ) where
     packs = λ xs room right. cond-true _ _ _ (eq-eqb room (packed_length (length xs) w) right);
     packs_numbers = λ xs room right fit.
         cond-true _ _ _ (eq-eqb room (packed_length (length xs) w) right)
-        ∙ cond-true _ _ _ (front_passed (2 ^ w) (length xs) xs refl fit);
+        ∙ cond-true _ _ _ (all_below_passes (2 ^ w) (length xs) xs refl fit);
     unpacks = λ bytes many long. cond-true _ _ _ (eq-eqb (length bytes) (packed_length many w) long);
   }
 

@@ -1,7 +1,7 @@
 -- Numbers of a few bits each, one after another, low bit first, as bytes.
 use Rattle.std.specs.Prelude.{ℕ, zero, suc, ◌+◌, ◌*◌, ◌/◌, ◌%◌, ◌^◌, ◌==◌, nat_le}
 use Rattle.std.specs.Prelude.{List, [], ◌∷◌, length, Ok, Result}
-use Rattle.ring.specs.Elements.{AllBelow, front_below}
+use Rattle.ring.specs.Elements.{AllBelow, first_not_below}
 use Rattle.ring.specs.Faults.{checked}
 use Rattle.ring.specs.declared.fault.Fault.{Fault}
 use Rattle.ring.specs.declared.fault.Fault.TheVariants.{WrongLength, OutOfRange}
@@ -31,19 +31,19 @@ AllFit w xs = AllBelow (2 ^ w) xs
 
 -- how many come before the first that has more than w bits
 abbrev pub front_fitting : (w : ℕ) → List ℕ → ℕ
-front_fitting w xs = front_below (2 ^ w) xs
+front_fitting w xs = first_not_below (2 ^ w) xs
 
 -- packing numbers of w bits into so much room
-abbrev pub pack_answer : (w : ℕ) → List ℕ → (room : ℕ) → Result (Unit {0}) Fault
-pack_answer w xs room = checked (room == packed_length (length xs) w) (WrongLength 4) (Ok tt)
+abbrev pub pack_outcome : (w : ℕ) → List ℕ → (room : ℕ) → Result (Unit {0}) Fault
+pack_outcome w xs room = checked (room == packed_length (length xs) w) (WrongLength 4) (Ok tt)
 
 -- unpacking so many numbers
-abbrev pub unpack_answer : (w : ℕ) → List ℕ → (many : ℕ) → Result (Unit {0}) Fault
-unpack_answer w bytes many = checked (length bytes == packed_length many w) (WrongLength 1) (Ok tt)
+abbrev pub unpack_outcome : (w : ℕ) → List ℕ → (many : ℕ) → Result (Unit {0}) Fault
+unpack_outcome w bytes many = checked (length bytes == packed_length many w) (WrongLength 1) (Ok tt)
 
 -- packing numbers that may have more than w bits, into so much room
-abbrev pub pack_numbers_answer : (w : ℕ) → List ℕ → (room : ℕ) → Result (Unit {0}) Fault
-pack_numbers_answer w xs room =
+abbrev pub pack_numbers_outcome : (w : ℕ) → List ℕ → (room : ℕ) → Result (Unit {0}) Fault
+pack_numbers_outcome w xs room =
     checked (room == packed_length (length xs) w) (WrongLength 4)
     (checked (nat_le (length xs) (front_fitting w xs)) (OutOfRange (front_fitting w xs))
     (Ok tt))

@@ -5,7 +5,7 @@ use Rattle.ring.specs.declared.fault.Fault.{Fault}
 use Rattle.ring.specs.declared.fault.Fault.TheVariants.{WrongLength, OutOfRange, SumTooLarge}
 use Rattle.ring.specs.declared.fault.Fault.TheVariants.{CoinOutOfRange, SourceSpent}
 use Rattle.packing.specs.Lengths.{packed_length}
-use Rattle.packing.specs.Packing.{AllFit, pack_answer, pack_numbers_answer, unpack_answer}
+use Rattle.packing.specs.Packing.{AllFit, pack_outcome, pack_numbers_outcome, unpack_outcome}
 
 -- packing numbers of w bits into so much room: the room is the list's length
 abbrev pub PackMeans : (w : ℕ) → List ℕ → (room : ℕ) → Result (Unit {0}) Fault → Type 0
@@ -37,17 +37,17 @@ UnpackMeans w bytes many (Err (SourceSpent i)) = ⊥
 
 -- for numbers of w bits
 pub record PackingRefusals (w : ℕ) : Type 0 where
-  pub pack_means : (xs : List ℕ) (room : ℕ) → PackMeans w xs room (pack_answer w xs room)
+  pub pack_means : (xs : List ℕ) (room : ℕ) → PackMeans w xs room (pack_outcome w xs room)
   pub pack_numbers_means :
-      (xs : List ℕ) (room : ℕ) → PackNumbersMeans w xs room (pack_numbers_answer w xs room)
-  pub unpack_means : (bytes : List ℕ) (many : ℕ) → UnpackMeans w bytes many (unpack_answer w bytes many)
+      (xs : List ℕ) (room : ℕ) → PackNumbersMeans w xs room (pack_numbers_outcome w xs room)
+  pub unpack_means : (bytes : List ℕ) (many : ℕ) → UnpackMeans w bytes many (unpack_outcome w bytes many)
   -- what is right is accepted
-  pub packs : (xs : List ℕ) (room : ℕ) → room ≡ packed_length (length xs) w → pack_answer w xs room ≡ Ok tt
+  pub packs : (xs : List ℕ) (room : ℕ) → room ≡ packed_length (length xs) w → pack_outcome w xs room ≡ Ok tt
   pub packs_numbers :
       (xs : List ℕ) (room : ℕ) → room ≡ packed_length (length xs) w → AllFit w xs →
-      pack_numbers_answer w xs room ≡ Ok tt
+      pack_numbers_outcome w xs room ≡ Ok tt
   pub unpacks :
-      (bytes : List ℕ) (many : ℕ) → length bytes ≡ packed_length many w → unpack_answer w bytes many ≡ Ok tt
+      (bytes : List ℕ) (many : ℕ) → length bytes ≡ packed_length many w → unpack_outcome w bytes many ≡ Ok tt
 
 -- for every width
 abbrev pub PackingRefusesTheFirst : Type 0

@@ -1,9 +1,10 @@
-// Numbers that fit into the bits that they are packed in.
+//! Numbers that fit into the bits that they are packed in.
+
 ghost use Rattle.packing.specs.Packing.{AllFit};
 
 use crate::width::Width;
 
-// A list of numbers, none of which has more bits than the width.
+/// A list of numbers, none of which has more bits than the width.
 #[derive(Clone, Copy)]
 pub struct Fields<'a> {
     pub(crate) width: Width,

@@ -1,4 +1,5 @@
-// Widths, and the bytes that so many numbers of a width take.
+//! Widths, and the bytes that so many numbers of a width take.
+
 ghost use Rattle.std.specs.Prelude.{◌≡◌, ◌^◌, ltb};
 ghost use Rattle.packing.specs.Lengths.{packed_length};
 ghost use Rattle.packing.specs.Widths.{width_from};
@@ -6,7 +7,7 @@ ghost use Rattle.packing.specs.Widths.{width_from};
 use crate::width::Width;
 
 impl Width {
-    // The width of so many bits, unless they are none or more than 16.
+    /// The width of so many bits, unless they are none or more than 16.
     pub fn new(bits: u32) -> Option<Self>
         ensures { width_from bits result }
     {
@@ -23,7 +24,7 @@ impl Width {
         self.bits
     }
 
-    // Whether a number has no more bits.
+    /// Whether a number has no more bits.
     #[tactic(auto, using(crate::proofs::Numbers::limit))]
     pub(crate) fn fits(self, x: u32) -> bool
         ensures { result ≡ ltb x (2 ^ self.bits) }
@@ -31,7 +32,7 @@ impl Width {
         x < 1 << self.bits
     }
 
-    // How many bytes so many numbers take.
+    /// How many bytes so many numbers take.
     pub fn packed_length(self, count: usize) -> u128
         ensures { result ≡ packed_length count self.bits }
     {

@@ -1,4 +1,5 @@
-// Packing: numbers of 1 to 16 bits, one after another in bytes, low bit first.
+//! Packing: numbers of 1 to 16 bits, one after another in bytes, low bit first.
+
 #![tactic(auto)]
 
 mod fields;

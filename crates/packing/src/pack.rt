@@ -1,10 +1,11 @@
-// Packing: from numbers to bytes.
+//! Packing: from numbers to bytes.
+
 ghost use Rattle.std.specs.Prelude.{◌≡◌, ◌^◌, ◌≤◌, ◌<◌, All, IfOk, MatchResult, OnOk, length};
 ghost use Rattle.ring.specs.Elements.{FirstNotBelow};
 ghost use Rattle.ring.specs.Faults.{after};
 ghost use Rattle.packing.specs.Lengths.{packed_length};
 ghost use Rattle.packing.specs.Packing.{AllFit, front_fitting, number, packed, unpacked};
-ghost use Rattle.packing.specs.Packing.{pack_answer, pack_numbers_answer};
+ghost use Rattle.packing.specs.Packing.{pack_outcome, pack_numbers_outcome};
 ghost use Rattle.packing.specs.Refusals.{PackMeans, PackNumbersMeans};
 
 use crate::fields::Fields;
@@ -12,10 +13,10 @@ use crate::width::Width;
 use ring::Fault;
 
 impl<'a> Fields<'a> {
-    // The list, or the index of the first number that has more bits than the width.
-    #[tactic(auto, using(ring::proofs::Elements::all_below, ring::proofs::Elements::first_not_below))]
+    /// The list, or the index of the first number that has more bits than the width.
+    #[tactic(auto, using(ring::proofs::Elements::all_below, ring::proofs::Elements::is_first_not_below))]
     pub fn check(width: Width, numbers: &'a [u32]) -> Result<Self, usize>
-        ensures answer { MatchResult result
+        ensures outcome { MatchResult result
             (λ _. length numbers.now ≤ front_fitting width.bits numbers.now)
             (λ i. (i ≡ front_fitting width.bits numbers.now) × (i < length numbers.now)) }
         ensures means { MatchResult result
@@ -31,9 +32,9 @@ impl<'a> Fields<'a> {
         Ok(Fields { width, numbers })
     }
 
-    // Writes the bytes of the numbers into `output`, which has to have their length.
+    /// Writes the bytes of the numbers into `output`, which has to have their length.
     pub fn pack(self, output: &mut [u8]) -> Result<(), Fault>
-        ensures answer { result ≡ pack_answer self.entry.width.bits self.entry.numbers.now (length output.old) }
+        ensures outcome { result ≡ pack_outcome self.entry.width.bits self.entry.numbers.now (length output.old) }
         ensures means { PackMeans self.entry.width.bits self.entry.numbers.now (length output.old) result }
         ensures writes { output.new ≡ after result (packed self.entry.width.bits self.entry.numbers.now) output.old }
         ensures unpacks_back { let w = self.entry.width.bits in let xs = self.entry.numbers.now in
@@ -54,9 +55,9 @@ impl<'a> Fields<'a> {
 }
 
 impl Width {
-    // Packs numbers, of which each has to have no more bits than the width. A wrong length is found before them.
+    /// Packs numbers, of which each has to have no more bits than the width. A wrong length is found before them.
     pub fn pack(self, numbers: &[u32], output: &mut [u8]) -> Result<(), Fault>
-        ensures answer { result ≡ pack_numbers_answer self.bits numbers.now (length output.old) }
+        ensures outcome { result ≡ pack_numbers_outcome self.bits numbers.now (length output.old) }
         ensures means { PackNumbersMeans self.bits numbers.now (length output.old) result }
         ensures writes { output.new ≡ after result (packed self.bits numbers.now) output.old }
         ensures unpacks_back { OnOk result (unpacked self.bits (length numbers.now) output.new ≡ numbers.now) }
@@ -69,7 +70,7 @@ impl Width {
     }
 }
 
-// How many numbers come before the first that has more bits than the width.
+/// How many numbers come before the first that has more bits than the width.
 #[tactic(auto, using(crate::proofs::Fitting::front_is_whole))]
 fn front_fitting(width: Width, numbers: &[u32]) -> usize
     ensures { result ≡ front_fitting width.bits numbers.now }
@@ -80,7 +81,7 @@ fn front_fitting(width: Width, numbers: &[u32]) -> usize
     numbers.iter().take_while(|x| width.fits(**x)).count()
 }
 
-// The bits that any of the numbers has. No number is larger.
+/// The bits that any of the numbers has. No number is larger.
 fn union(numbers: &[u32]) -> u32
     ensures { All (λ x. x ≤ result) numbers.now }
 {
@@ -91,7 +92,7 @@ fn union(numbers: &[u32]) -> u32
     all
 }
 
-// Writes the bytes of up to eight numbers.
+/// Writes the bytes of up to eight numbers.
 fn pack_eight(width: Width, numbers: &[u32], output: &mut [u8])
     requires few { length numbers.now ≤ 8 }
     requires fit { AllFit width.bits numbers.now }
@@ -105,7 +106,7 @@ fn pack_eight(width: Width, numbers: &[u32], output: &mut [u8])
     }
 }
 
-// The number whose digits are up to eight numbers: it has at most 128 bits. Half of them fit a machine word.
+/// The number whose digits are up to eight numbers: it has at most 128 bits. Half of them fit a machine word.
 fn joined(width: Width, digits: &[u32]) -> u128
     requires few { length digits.now ≤ 8 }
     requires fit { AllFit width.bits digits.now }
@@ -115,7 +116,7 @@ fn joined(width: Width, digits: &[u32]) -> u128
     u128::from(joined_four(width, low)) + (u128::from(joined_four(width, high)) << (4 * width.bits))
 }
 
-// The same of up to four.
+/// The same of up to four.
 fn joined_four(width: Width, digits: &[u32]) -> u64
     requires few { length digits.now ≤ 4 }
     requires fit { AllFit width.bits digits.now }

@@ -1,8 +1,9 @@
-// Unpacking: from bytes to numbers.
+//! Unpacking: from bytes to numbers.
+
 ghost use Rattle.std.specs.Prelude.{◌≡◌, ◌%◌, ◌^◌, ◌≤◌, OnOk, length};
 ghost use Rattle.ring.specs.Faults.{after};
 ghost use Rattle.packing.specs.Lengths.{packed_length};
-ghost use Rattle.packing.specs.Packing.{AllFit, digits, packed, unpack_answer, unpacked};
+ghost use Rattle.packing.specs.Packing.{AllFit, digits, packed, unpack_outcome, unpacked};
 ghost use Rattle.packing.specs.PackingLaws.{SpareClear};
 ghost use Rattle.packing.specs.Refusals.{UnpackMeans};
 
@@ -10,10 +11,10 @@ use crate::width::Width;
 use ring::Fault;
 
 impl Width {
-    // Reads as many numbers of this width as `numbers` has room for from their bytes, which have to have their length.
-    // Spare bits are not looked at.
+    /// Reads as many numbers of this width as `numbers` has room for from their bytes, which have to have their length.
+    /// Spare bits are not looked at.
     pub fn unpack(self, bytes: &[u8], numbers: &mut [u32]) -> Result<(), Fault>
-        ensures answer { result ≡ unpack_answer self.bits bytes.now (length numbers.old) }
+        ensures outcome { result ≡ unpack_outcome self.bits bytes.now (length numbers.old) }
         ensures means { UnpackMeans self.bits bytes.now (length numbers.old) result }
         ensures reads { numbers.new ≡ after result (unpacked self.bits (length numbers.old) bytes.now) numbers.old }
         ensures fit { OnOk result (AllFit self.bits numbers.new) }
@@ -37,7 +38,7 @@ impl Width {
     }
 }
 
-// Reads up to eight numbers from their bytes.
+/// Reads up to eight numbers from their bytes.
 fn unpack_eight(width: Width, bytes: &[u8], numbers: &mut [u32])
     requires few { length numbers.old ≤ 8 }
     requires long { length bytes.now ≡ packed_length (length numbers.old) width.bits }
@@ -48,7 +49,7 @@ fn unpack_eight(width: Width, bytes: &[u8], numbers: &mut [u32])
     split(width, u128::from_le_bytes(block), numbers);
 }
 
-// The lowest digits of a number, up to eight. Half of them fit a machine word.
+/// The lowest digits of a number, up to eight. Half of them fit a machine word.
 fn split(width: Width, joined: u128, numbers: &mut [u32])
     requires { length numbers.old ≤ 8 }
     ensures { numbers.new ≡ digits width.bits (length numbers.old) joined }
@@ -65,7 +66,7 @@ fn low_word(x: u128) -> u64
     (x & u128::from(u64::MAX)) as u64
 }
 
-// The lowest digits of a word.
+/// The lowest digits of a word.
 fn split_word(width: Width, word: u64, numbers: &mut [u32])
     ensures { numbers.new ≡ digits width.bits (length numbers.old) word }
 {

@@ -1,7 +1,8 @@
-// How many bits a packed number has.
+//! How many bits a packed number has.
+
 ghost use Rattle.std.specs.Prelude.{◌≡◌, ◌≤◌};
 
-// From 1 to 16 bits.
+/// From 1 to 16 bits.
 #[derive(Clone, Copy, PartialEq, Eq, Debug)]
 pub struct Width {
     pub(crate) bits: u32,

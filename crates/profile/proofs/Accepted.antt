@@ -2,7 +2,7 @@
 use Rattle.std.proofs.Common.{◌≡◌, ℕ, ◌^◌, Bool, true, false, cond, ltb, leb, Ok, Err, Result, ap, arith}
 use Rattle.ring.specs.declared.fault.Fault.{Fault}
 use Rattle.ring.specs.declared.fault.Fault.TheVariants.{OutOfRange, CoinOutOfRange}
-use Rattle.profile.specs.Answers.{round_answer, recover_answer, reconcile_answer, read_answer}
+use Rattle.profile.specs.Outcomes.{round_outcome, recover_outcome, reconcile_outcome, read_outcome}
 use Rattle.profile.specs.Laws.{Functions}
 use Rattle.profile.specs.declared.numbers.Numbers.{Numbers}
 
@@ -16,18 +16,18 @@ two_tests true b v w first second e = one_test b v w second e
 two_tests false b v w first second e = absurd (let z : ◌≡◌ {A = ℕ} 0 1 = cc in omega arith)
 
 module _ (k : Numbers) (f : Functions) where
-  pub rounded : (x y : ℕ) → round_answer k f x ≡ Ok y → y ≡ f.round x
+  pub rounded : (x y : ℕ) → round_outcome k f x ≡ Ok y → y ≡ f.round x
   rounded x y e = one_test (ltb x k.q) (f.round x) y (OutOfRange 0) e
 
-  pub recovered : (y t : ℕ) → recover_answer k f y ≡ Ok t → t ≡ f.recover y
+  pub recovered : (y t : ℕ) → recover_outcome k f y ≡ Ok t → t ≡ f.recover y
   recovered y t e = one_test (leb y k.p) (f.recover y) t (OutOfRange 0) e
 
-  pub reconciled : (x coin signal bit : ℕ) → reconcile_answer k f x coin ≡ Ok (signal, bit) → (signal ≡ f.signal x coin) × (bit ≡ f.key_bit x coin)
+  pub reconciled : (x coin signal bit : ℕ) → reconcile_outcome k f x coin ≡ Ok (signal, bit) → (signal ≡ f.signal x coin) × (bit ≡ f.key_bit x coin)
   reconciled x coin signal bit e =
       let both : ◌≡◌ {A = ℕ × ℕ} (signal, bit) (f.signal x coin, f.key_bit x coin) =
       two_tests (ltb x k.q) (ltb coin k.coins) (f.signal x coin, f.key_bit x coin) (signal, bit) (OutOfRange 0) (CoinOutOfRange 0) e in
       (ap (λ (p : ℕ × ℕ). p.0) both, ap (λ (p : ℕ × ℕ). p.1) both)
 
-  pub key_bit_read : (y signal bit : ℕ) → read_answer k f y signal ≡ Ok bit → bit ≡ f.read y signal
+  pub key_bit_read : (y signal bit : ℕ) → read_outcome k f y signal ≡ Ok bit → bit ≡ f.read y signal
   key_bit_read y signal bit e =
       two_tests (ltb y k.q) (ltb signal (2 ^ k.signal_width)) (f.read y signal) bit (OutOfRange 0) (OutOfRange 0) e

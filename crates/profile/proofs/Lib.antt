@@ -1,4 +1,4 @@
 pub mod Accepted
-pub mod AnswerLaws
-pub mod Fronts
+pub mod OutcomeLaws
+pub mod Secrets
 pub mod Ranges

@@ -1,7 +1,7 @@
 pub mod Counts
 pub mod Laws
-pub mod Answers
-pub mod AnswerLaws
+pub mod Outcomes
+pub mod OutcomeLaws
 pub mod Secrets
 pub mod Places
 pub mod LawProofs

@@ -1,10 +1,12 @@
 -- What a secret is, and what a place for one answers and holds.
-use Rattle.std.specs.Prelude.{◌≡◌, ℕ, ◌+◌, ◌<◌, ◌≤◌, ◌⊎◌, leb, List, [], ◌∷◌, length, take, replicate, ℤ, pos, Some, None, Ok, Err, sum_by, Option, Result, ◌==◌, ◌≢◌, nat_le, slice_index_or, unsigned_abs, if◌then◌else◌, All}
+use Rattle.std.specs.Prelude.{◌≡◌, ℕ, ◌+◌, ◌<◌, ◌≤◌, leb, List, [], ◌∷◌, length, take, replicate, ℤ, pos, Some, None, Ok, Err, sum_by, Option, Result, ◌==◌, ◌≢◌, nat_le, slice_index_or, unsigned_abs, if◌then◌else◌, All}
 use Rattle.std.specs.Borrow.{Bor}
 use Rattle.std.specs.List.{prefix_len}
+use Rattle.ring.specs.Elements.{NoneOrFirst}
 use Rattle.ring.specs.Faults.{checked}
 use Rattle.ring.specs.declared.fault.Fault.{Fault}
 use Rattle.ring.specs.declared.fault.Fault.TheVariants.{WrongLength, OutOfRange, SumTooLarge, CoinOutOfRange, SourceSpent}
+use Rattle.ring.specs.declared.place.TheConstants.{COEFFICIENTS}
 use Rattle.profile.specs.declared.bounds.Bounds.{Bounds}
 use Rattle.profile.specs.declared.numbers.Numbers.{Numbers}
 
@@ -17,22 +19,22 @@ pub record LawfulSecret (b : Bounds) (xs : List ℤ) : Type 0 where
   pub small : All (λ x. unsigned_abs x ≤ b.e) xs
   pub light : sum_by unsigned_abs xs ≤ b.l
 
--- how many come before the first of a size above e
-abbrev pub front_within : ℕ → List ℤ → ℕ
-front_within e xs = prefix_len (λ x. leb (unsigned_abs x) e) xs
+-- the index of the first of a size above e, and the length where there is none
+abbrev pub first_beyond : ℕ → List ℤ → ℕ
+first_beyond e xs = prefix_len (λ x. leb (unsigned_abs x) e) xs
 
--- how many come before the one at which the sum, running on from `sum`, first passes l
-abbrev pub front_summing : ℕ → ℕ → List ℤ → ℕ
-front_summing sum l [] = 0
-front_summing sum l (x ∷ xs) =
-    if nat_le (sum + unsigned_abs x) l then 1 + front_summing (sum + unsigned_abs x) l xs else 0
+-- the index at which the sum, running on from `sum`, first passes l, and the length where it does not
+abbrev pub first_past : ℕ → ℕ → List ℤ → ℕ
+first_past sum l [] = 0
+first_past sum l (x ∷ xs) =
+    if nat_le (sum + unsigned_abs x) l then 1 + first_past (sum + unsigned_abs x) l xs else 0
 
 -- what a place answers when xs is handed in
-abbrev pub fill_answer : Bounds → List ℤ → Result (Unit {0}) Fault
-fill_answer b xs =
-    checked (length xs == b.n) (WrongLength 1)
-    (checked (nat_le b.n (front_within b.e xs)) (OutOfRange (front_within b.e xs))
-    (checked (nat_le b.n (front_summing 0 b.l xs)) (SumTooLarge (front_summing 0 b.l xs))
+abbrev pub fill_outcome : Bounds → List ℤ → Result (Unit {0}) Fault
+fill_outcome b xs =
+    checked (length xs == b.n) (WrongLength COEFFICIENTS)
+    (checked (nat_le b.n (first_beyond b.e xs)) (OutOfRange (first_beyond b.e xs))
+    (checked (nat_le b.n (first_past 0 b.l xs)) (SumTooLarge (first_past 0 b.l xs))
     (Ok tt)))
 
 -- i is the index of the first coefficient of a size above e
@@ -41,9 +43,9 @@ pub record FirstBeyond (e : ℕ) (xs : List ℤ) (i : ℕ) : Type 0 where
   pub before : All (λ x. unsigned_abs x ≤ e) (take i xs)
   pub here : e < unsigned_abs (slice_index_or xs i (pos 0))
 
--- front coefficients are within e: all that there are, or the first other one comes after them
-abbrev pub IsFrontWithin : (e : ℕ) → List ℤ → (front : ℕ) → Type 0
-IsFrontWithin e xs front = ((front ≡ length xs) × All (λ x. unsigned_abs x ≤ e) xs) ⊎ FirstBeyond e xs front
+-- all are within e, or it is the index of the first that is beyond
+abbrev pub NoneOrFirstBeyond : (e : ℕ) → List ℤ → (place : ℕ) → Type 0
+NoneOrFirstBeyond e xs place = NoneOrFirst (length xs) (All (λ x. unsigned_abs x ≤ e) xs) (FirstBeyond e xs) place
 
 -- i is the index where the running sum of sizes first passes l
 pub record FirstPast (l : ℕ) (xs : List ℤ) (i : ℕ) : Type 0 where
@@ -51,14 +53,14 @@ pub record FirstPast (l : ℕ) (xs : List ℤ) (i : ℕ) : Type 0 where
   pub before : sum_by unsigned_abs (take i xs) ≤ l
   pub here : l < sum_by unsigned_abs (take (i + 1) xs)
 
--- front coefficients have sizes that add up to at most l: all that there are, or the sum passes l at the next one
-abbrev pub IsFrontSumming : (l : ℕ) → List ℤ → (front : ℕ) → Type 0
-IsFrontSumming l xs front = ((front ≡ length xs) × (sum_by unsigned_abs xs ≤ l)) ⊎ FirstPast l xs front
+-- the sum of all sizes is at most l, or it is the index where the running sum first passes l
+abbrev pub NoneOrFirstPast : (l : ℕ) → List ℤ → (place : ℕ) → Type 0
+NoneOrFirstPast l xs place = NoneOrFirst (length xs) (sum_by unsigned_abs xs ≤ l) (FirstPast l xs) place
 
 -- what each answer says of the list: that it is a lawful secret, or where it first is not, by length, then size, then sum
 abbrev pub FillMeans : Bounds → List ℤ → Result (Unit {0}) Fault → Type 0
 FillMeans b xs (Ok _) = LawfulSecret b xs
-FillMeans b xs (Err (WrongLength place)) = (length xs ≢ b.n) × (place ≡ 1)
+FillMeans b xs (Err (WrongLength place)) = (length xs ≢ b.n) × (place ≡ COEFFICIENTS)
 FillMeans b xs (Err (OutOfRange i)) = (length xs ≡ b.n) × FirstBeyond b.e xs i
 FillMeans b xs (Err (SumTooLarge i)) = (length xs ≡ b.n) × All (λ x. unsigned_abs x ≤ b.e) xs × FirstPast b.l xs i
 FillMeans b xs (Err (CoinOutOfRange i)) = ⊥
@@ -66,11 +68,11 @@ FillMeans b xs (Err (SourceSpent i)) = ⊥
 
 -- every list, under any bounds
 abbrev pub FillRefusesTheFirst : Type 0
-FillRefusesTheFirst = (b : Bounds) (xs : List ℤ) → FillMeans b xs (fill_answer b xs)
+FillRefusesTheFirst = (b : Bounds) (xs : List ℤ) → FillMeans b xs (fill_outcome b xs)
 
 -- and every lawful secret is accepted
 abbrev pub FillAcceptsTheLawful : Type 0
-FillAcceptsTheLawful = (b : Bounds) (xs : List ℤ) → LawfulSecret b xs → fill_answer b xs ≡ Ok tt
+FillAcceptsTheLawful = (b : Bounds) (xs : List ℤ) → LawfulSecret b xs → fill_outcome b xs ≡ Ok tt
 
 -- what an optional slice shows
 abbrev pub shown : Option (Bor (List ℤ)) → Option (List ℤ)

@@ -1,25 +1,26 @@
-// How many errors or coins come before the first that is not lawful.
+//! Where errors or coins are first not lawful.
+
 ghost use Rattle.std.specs.Prelude.{◌≡◌};
-ghost use Rattle.ring.specs.Elements.{IsFrontBelow, front_below};
-ghost use Rattle.profile.specs.Secrets.{IsFrontWithin, front_within};
+ghost use Rattle.ring.specs.Elements.{NoneOrFirstNotBelow, first_not_below};
+ghost use Rattle.profile.specs.Secrets.{NoneOrFirstBeyond, first_beyond};
 
 use crate::profile::Profile;
-use crate::sizes::front_within;
+use crate::sizes::first_beyond;
 
-// How many errors come before the first of a size above E.
-#[tactic(auto, using(crate::proofs::Fronts::is_front_within))]
-pub fn errors_within<P: Profile>(errors: &[i32]) -> usize
-    ensures value { result ≡ front_within P.NUMBERS.e errors.now }
-    ensures means { IsFrontWithin P.NUMBERS.e errors.now result }
+/// The index of the first error of a size above E; where there is none, how many errors there are.
+#[tactic(auto, using(crate::proofs::Secrets::none_or_first_beyond))]
+pub fn first_error_beyond<P: Profile>(errors: &[i32]) -> usize
+    ensures value { result ≡ first_beyond P.NUMBERS.e errors.now }
+    ensures means { NoneOrFirstBeyond P.NUMBERS.e errors.now result }
 {
-    front_within(errors, P::NUMBERS.e)
+    first_beyond(errors, P::NUMBERS.e)
 }
 
-// How many coins come before the first that is not below the coin count.
-#[tactic(auto, using(ring::proofs::Elements::is_front_below))]
-pub fn coins_below<P: Profile>(coins: &[u8]) -> usize
-    ensures value { result ≡ front_below P.NUMBERS.coins coins.now }
-    ensures means { IsFrontBelow P.NUMBERS.coins coins.now result }
+/// The index of the first coin that is not below the coin count; where there is none, how many coins there are.
+#[tactic(auto, using(ring::proofs::Elements::none_or_first_not_below))]
+pub fn first_coin_not_below<P: Profile>(coins: &[u8]) -> usize
+    ensures value { result ≡ first_not_below P.NUMBERS.coins coins.now }
+    ensures means { NoneOrFirstNotBelow P.NUMBERS.coins coins.now result }
 {
     let count = P::NUMBERS.coins;
     coins

@@ -1,4 +1,5 @@
-// What a secret place does.
+//! What a secret place does.
+
 ghost use Rattle.profile.specs.Places.{place_held, place_memory};
 ghost use Rattle.profile.specs.LawProofs.{place_unfilled_or_lawful};
 
@@ -6,8 +7,8 @@ use crate::bounds::SecretBounds;
 use crate::memory::{Memory, overwrite};
 use crate::place::Place;
 use crate::secret::SecretPlace;
-use crate::sizes::{front_summing, front_within};
-use ring::Fault;
+use crate::sizes::{first_beyond, first_past};
+use ring::{Fault, place};
 use std::alloc::{AllocError, Global};
 use std::marker::PhantomData;
 
@@ -34,13 +35,13 @@ impl<P: SecretBounds> SecretPlace for Place<P> {
     fn fill(&mut self, coefficients: &[i32]) -> Result<(), Fault> {
         let bounds = P::BOUNDS;
         if coefficients.len() != bounds.n {
-            return Err(Fault::WrongLength(1));
+            return Err(Fault::WrongLength(place::COEFFICIENTS));
         }
-        let within = front_within(coefficients, bounds.e);
+        let within = first_beyond(coefficients, bounds.e);
         if within < bounds.n {
             return Err(Fault::OutOfRange(within));
         }
-        let summing = front_summing(coefficients, bounds.l);
+        let summing = first_past(coefficients, bounds.l);
         if summing < bounds.n {
             return Err(Fault::SumTooLarge(summing));
         }

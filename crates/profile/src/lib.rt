@@ -1,5 +1,6 @@
-// What a profile is: its numbers, its functions, its laws and its modulus; where a secret of it is held; and how many errors
-// and coins are in range.
+//! What a profile is: its numbers, its functions, its laws and its modulus; where a secret of it is held; and how many errors
+//! and coins are in range.
+
 #![tactic(auto)]
 
 mod bounds;
@@ -16,12 +17,12 @@ mod sizes;
 mod theorems;
 
 pub use bounds::{Bounds, SecretBounds};
-pub use errors_and_coins::{coins_below, errors_within};
+pub use errors_and_coins::{first_coin_not_below, first_error_beyond};
 pub use moduli::modulus;
 pub use numbers::Numbers;
 pub use place::Place;
 pub use profile::Profile;
 pub use secret::{SecretPlace, fill_refuses_the_first};
 pub use secret_guard::SecretGuard;
-pub use sizes::{front_summing, front_within};
+pub use sizes::{first_beyond, first_past};
 pub use theorems::functions_refuse_the_first;

@@ -1,4 +1,5 @@
-// A secret place in memory of its own.
+//! A secret place in memory of its own.
+
 ghost use Rattle.std.specs.Prelude.{◌≡◌, true, false, vec_len};
 ghost use Rattle.profile.specs.Secrets.{LawfulSecret, zeros};
 
@@ -6,8 +7,8 @@ use crate::bounds::SecretBounds;
 use crate::memory::{Memory, overwrite};
 use std::marker::PhantomData;
 
-// Room for one secret of P, the profile that the place belongs to. The memory is got once, when the place is made. Unfilled, all of
-// it is 0; a place that is let go overwrites it first, without which it could not be freed.
+/// Room for one secret of P, the profile that the place belongs to. The memory is got once, when the place is made. Unfilled, all of
+/// it is 0; a place that is let go overwrites it first, without which it could not be freed.
 pub struct Place<P: SecretBounds> {
     pub(crate) memory: Memory,
     pub(crate) filled: bool,

@@ -1,6 +1,7 @@
-// What a profile is to generic code.
+//! What a profile is to generic code.
+
 ghost use Rattle.std.specs.Prelude.{◌≡◌};
-ghost use Rattle.profile.specs.Answers.{round_answer, recover_answer, reconcile_answer, read_answer};
+ghost use Rattle.profile.specs.Outcomes.{round_outcome, recover_outcome, reconcile_outcome, read_outcome};
 ghost use Rattle.profile.specs.Laws.{Functions, Lawful};
 ghost use Rattle.profile.specs.Secrets.{bounds_of};
 ghost use Rattle.profile.specs.declared.numbers.Numbers.{Numbers};
@@ -9,40 +10,33 @@ use crate::numbers::Numbers;
 use crate::secret::SecretPlace;
 use ring::Fault;
 
-// One choice of numbers with one reconciler. Generic code goes by the laws, and never by which profile it is.
+/// One choice of numbers with one reconciler. Generic code goes by the laws, and never by which profile it is.
 pub trait Profile {
-    // Where a secret of this profile, and of no other, is held.
+    /// Where a secret of this profile, and of no other, is held.
     type Secret: SecretPlace<Profile = Self>;
 
-    // The numbers that the profile states, and the same as clauses know them.
+    /// The numbers that the profile states, and the same as clauses know them.
     const NUMBERS: Numbers;
 
     ghost NUMBERS: { Numbers };
 
     ghost functions: { Functions };
 
-    // The numbers, as a call gives them.
-    fn stated() -> Numbers
-        ensures { result ≡ NUMBERS }
-    {
-        Self::NUMBERS
-    }
-
-    // The rounded value of a residue.
+    /// The rounded value of a residue.
     fn round(x: u32) -> Result<u32, Fault>
-        ensures { result ≡ round_answer NUMBERS functions x };
+        ensures { result ≡ round_outcome NUMBERS functions x };
 
-    // The integer that a rounded value stands for, before it is reduced modulo q.
+    /// The integer that a rounded value stands for, before it is reduced modulo q.
     fn recover(y: u32) -> Result<u32, Fault>
-        ensures { result ≡ recover_answer NUMBERS functions y };
+        ensures { result ≡ recover_outcome NUMBERS functions y };
 
-    // The signal and the key bit of a residue and a coin.
+    /// The signal and the key bit of a residue and a coin.
     fn reconcile(x: u32, coin: u8) -> Result<(u32, u32), Fault>
-        ensures { result ≡ reconcile_answer NUMBERS functions x coin };
+        ensures { result ≡ reconcile_outcome NUMBERS functions x coin };
 
-    // The key bit that a residue and the other end's signal give.
+    /// The key bit that a residue and the other end's signal give.
     fn read(y: u32, signal: u32) -> Result<u32, Fault>
-        ensures { result ≡ read_answer NUMBERS functions y signal };
+        ensures { result ≡ read_outcome NUMBERS functions y signal };
 
     ghost lawful: { Lawful NUMBERS functions };
 

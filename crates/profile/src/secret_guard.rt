@@ -1,10 +1,11 @@
-// A secret that is used up on every way out.
+//! A secret that is used up on every way out.
+
 ghost use Rattle.std.specs.Prelude.{◌≡◌, None};
 ghost use Rattle.profile.specs.Secrets.{zeros};
 
 use crate::secret::SecretPlace;
 
-// Holds a secret place while its secret is in use, and erases it once it is let go.
+/// Holds a secret place while its secret is in use, and erases it once it is let go.
 pub struct SecretGuard<'a, S: SecretPlace> {
     pub place: &'a mut S,
 }

@@ -1,12 +1,13 @@
-// How far the coefficients of a list keep within a bound.
-ghost use Rattle.std.specs.Prelude.{◌≡◌};
-ghost use Rattle.profile.specs.Secrets.{IsFrontSumming, IsFrontWithin, front_within, front_summing};
+//! Where the coefficients of a list first pass a bound.
 
-// How many coefficients come before the first one of a size above `bound`.
-#[tactic(auto, using(crate::proofs::Fronts::is_front_within))]
-pub fn front_within(coefficients: &[i32], bound: u32) -> usize
-    ensures value { result ≡ front_within bound coefficients.now }
-    ensures means { IsFrontWithin bound coefficients.now result }
+ghost use Rattle.std.specs.Prelude.{◌≡◌};
+ghost use Rattle.profile.specs.Secrets.{NoneOrFirstPast, NoneOrFirstBeyond, first_beyond, first_past};
+
+/// The index of the first coefficient of a size above `bound`; where there is none, how many there are.
+#[tactic(auto, using(crate::proofs::Secrets::none_or_first_beyond))]
+pub fn first_beyond(coefficients: &[i32], bound: u32) -> usize
+    ensures value { result ≡ first_beyond bound coefficients.now }
+    ensures means { NoneOrFirstBeyond bound coefficients.now result }
 {
     coefficients
         .iter()
@@ -14,11 +15,11 @@ pub fn front_within(coefficients: &[i32], bound: u32) -> usize
         .count()
 }
 
-// How many coefficients come before the one at which the running sum of sizes first passes `limit`.
-#[tactic(auto, using(crate::proofs::Fronts::summing_steps, crate::proofs::Fronts::is_front_summing))]
-pub fn front_summing(coefficients: &[i32], limit: u32) -> usize
-    ensures value { result ≡ front_summing 0 limit coefficients.now }
-    ensures means { IsFrontSumming limit coefficients.now result }
+/// The index at which the running sum of sizes first passes `limit`; where it does not, how many coefficients there are.
+#[tactic(auto, using(crate::proofs::Secrets::summing_steps, crate::proofs::Secrets::none_or_first_past))]
+pub fn first_past(coefficients: &[i32], limit: u32) -> usize
+    ensures value { result ≡ first_past 0 limit coefficients.now }
+    ensures means { NoneOrFirstPast limit coefficients.now result }
 {
     let limit = u64::from(limit);
     let mut sum: u64 = 0;

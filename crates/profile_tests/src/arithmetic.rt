@@ -1,16 +1,17 @@
-// What an end computes with single numbers, at the ends of their types; and lists of errors and coins.
+//! What an end computes with single numbers, at the ends of their types; and lists of errors and coins.
+
 use house::{House, S, T, W};
-use profile::{Profile, coins_below, errors_within, modulus};
+use profile::{Profile, first_coin_not_below, first_error_beyond, modulus};
 use reconcile::Ding;
 use std::process::Abort;
 
 #[derive(Clone, Copy)]
 struct Expected {
-    // the residues of the least 32-bit number, of -1 and of the largest
+    /// the residues of the least 32-bit number, of -1 and of the largest
     residues: [u32; 3],
-    // the largest unsigned one, reduced
+    /// the largest unsigned one, reduced
     reduced: u32,
-    // q - 1 + 2, 1 - 6, and the largest number with the least multiple
+    /// q - 1 + 2, 1 - 6, and the largest number with the least multiple
     sums: [u32; 3],
 }
 
@@ -48,10 +49,10 @@ fn residues_of_extreme_numbers(rt: HostRuntime) {
 #[test]
 fn errors_and_coins_up_to_the_first_unlawful(rt: HostRuntime) {
     assert_eq!(rt;
-        errors_within::<House<S, Ding>>(&[2, -2, 0, 3, i32::MIN]),
+        first_error_beyond::<House<S, Ding>>(&[2, -2, 0, 3, i32::MIN]),
         3
     );
-    assert_eq!(rt; errors_within::<House<S, Ding>>(&[i32::MIN]), 0);
-    assert_eq!(rt; coins_below::<House<S, Ding>>(&[0, 1, 1, 2, 0]), 3);
-    assert_eq!(rt; coins_below::<House<S, Ding>>(&[]), 0);
+    assert_eq!(rt; first_error_beyond::<House<S, Ding>>(&[i32::MIN]), 0);
+    assert_eq!(rt; first_coin_not_below::<House<S, Ding>>(&[0, 1, 1, 2, 0]), 3);
+    assert_eq!(rt; first_coin_not_below::<House<S, Ding>>(&[]), 0);
 }

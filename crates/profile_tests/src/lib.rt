@@ -1,4 +1,5 @@
-// Tests of the profiles. The values are those of reference/values.py, a second implementation.
+//! Tests of the profiles. The values are those of reference/values.py, a second implementation.
+
 #![tactic(auto)]
 
 #[cfg(test)]

@@ -1,4 +1,5 @@
-// Every refusal of every function, once.
+//! Every refusal of every function, once.
+
 use house::{House, S};
 use profile::Profile;
 use reconcile::{Ding, Okcn, Reconciler};

@@ -1,14 +1,15 @@
-// Filling and erasing a secret place.
+//! Filling and erasing a secret place.
+
 use house::{House, S};
 use profile::{Profile, SecretGuard, SecretPlace};
 use reconcile::Ding;
 use ring::Fault;
 use std::test::Fail;
 
-// The place of a secret of the profile of S with Ding.
+/// The place of a secret of the profile of S with Ding.
 type SecretOfS = <House<S, Ding> as Profile>::Secret;
 
-// 512 coefficients, of which the first `many` are `value`.
+/// 512 coefficients, of which the first `many` are `value`.
 fn leading(many: usize, value: i32) -> [i32; 512] {
     let mut list = [0; 512];
     for c in list.iter_mut().take(many) {

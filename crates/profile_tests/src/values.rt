@@ -1,4 +1,5 @@
-// Each function of each house profile at the edges of its regions.
+//! Each function of each house profile at the edges of its regions.
+
 use house::{House, S, T, W};
 use profile::Profile;
 use reconcile::{Ding, Okcn, Reconciler};
@@ -9,10 +10,10 @@ struct Expected {
     x: u32,
     rounded: u32,
     recovered: u32,
-    // signal and key bit
+    /// signal and key bit
     coin_0: (u32, u32),
     coin_1: (u32, u32),
-    // the key bit that is read with the first and with the last signal
+    /// the key bit that is read with the first and with the last signal
     read_first: u32,
     read_last: u32,
 }

@@ -1,4 +1,5 @@
-// The reconciler of the Ding key exchange: an inner region by one signal bit, and a parity for the key bit.
+//! The reconciler of the Ding key exchange: an inner region by one signal bit, and a parity for the key bit.
+
 ghost use Rattle.std.specs.Prelude.{◌≡◌, ◌<◌};
 ghost use Rattle.reconcile.specs.Ding.{ding_functions, ding_numbers, ding_read};
 ghost use Rattle.reconcile.specs.LawProofs.Ding.{ding_sound};
@@ -8,7 +9,7 @@ use ring::{Fault, Modulus};
 
 pub struct Ding;
 
-// The parity of the signed form of y, which a signal of 1 moves by (q - 1) / 2.
+/// The parity of the signed form of y, which a signal of 1 moves by (q - 1) / 2.
 fn key_bit(q: Modulus, y: u32, signal: u32) -> u32
     requires inside { y < q.q }
     requires small { signal < 2 }

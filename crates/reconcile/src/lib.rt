@@ -1,4 +1,5 @@
-// Reconcilers: how two ends that hold nearly equal residues agree on a key bit.
+//! Reconcilers: how two ends that hold nearly equal residues agree on a key bit.
+
 #![tactic(auto)]
 
 mod ding;

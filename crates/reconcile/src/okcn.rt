@@ -1,4 +1,5 @@
-// The reconciler OKCN with two key values and four bands.
+//! The reconciler OKCN with two key values and four bands.
+
 ghost use Rattle.std.specs.Prelude.{◌≡◌, ◌*◌, ◌/◌, ◌^◌, ◌<◌};
 ghost use Rattle.reconcile.specs.Okcn.{okcn_numbers, okcn_functions};
 ghost use Rattle.reconcile.specs.LawProofs.Okcn.{okcn_sound};
@@ -8,7 +9,7 @@ use ring::{Fault, Modulus};
 
 pub struct Okcn;
 
-// Which of the four bands of 0..q has `rest`; no division.
+/// Which of the four bands of 0..q has `rest`; no division.
 fn band(q: u32, rest: u32) -> u32
     requires inside { rest < q }
     requires below { q < 2 ^ 23 }

@@ -1,12 +1,13 @@
-// How two ends that hold nearly equal residues agree on a key bit.
+//! How two ends that hold nearly equal residues agree on a key bit.
+
 ghost use Rattle.std.specs.Prelude.{◌≡◌};
-ghost use Rattle.profile.specs.Answers.{reconciled, key_bit_read};
+ghost use Rattle.profile.specs.Outcomes.{reconciled, key_bit_read};
 ghost use Rattle.reconcile.specs.Reconcilers.{Reconciliation, Sound};
 ghost use Rattle.reconcile.specs.declared.reconciler.ReconcilerNumbers.{ReconcilerNumbers};
 
 use ring::{Fault, Modulus};
 
-// The largest difference that is tolerated at the modulus q is floor((times q - less) / 2^shift).
+/// The largest difference that is tolerated at the modulus q is floor((times q - less) / 2^shift).
 #[derive(Clone, Copy, PartialEq, Eq, Debug)]
 pub struct Tolerance {
     pub times: u32,
@@ -30,18 +31,11 @@ pub trait Reconciler {
 
     ghost meaning: { Reconciliation };
 
-    // The numbers, as a call gives them.
-    fn stated() -> ReconcilerNumbers
-        ensures { result ≡ NUMBERS }
-    {
-        Self::NUMBERS
-    }
-
-    // The signal and the key bit of a residue and a coin.
+    /// The signal and the key bit of a residue and a coin.
     fn reconcile(q: Modulus, x: u32, coin: u8) -> Result<(u32, u32), Fault>
         ensures { result ≡ reconciled q.q NUMBERS.coins (meaning.signal q.q) (meaning.key_bit q.q) x coin };
 
-    // The key bit that a residue and the other end's signal give.
+    /// The key bit that a residue and the other end's signal give.
     fn read(q: Modulus, y: u32, signal: u32) -> Result<u32, Fault>
         ensures { result ≡ key_bit_read q.q NUMBERS.signal_width (meaning.read q.q) y signal };
 

@@ -6,9 +6,9 @@ use Rattle.std.specs.List.{prefix_len}
 abbrev pub AllBelow : (bound : ℕ) → List ℕ → Type 0
 AllBelow bound xs = All (λ x. x < bound) xs
 
--- how many come before the first that is not below the bound
-abbrev pub front_below : (bound : ℕ) → List ℕ → ℕ
-front_below bound xs = prefix_len (λ x. nat_lt x bound) xs
+-- the index of the first that is not below the bound, and the length where there is none
+abbrev pub first_not_below : (bound : ℕ) → List ℕ → ℕ
+first_not_below bound xs = prefix_len (λ x. nat_lt x bound) xs
 
 -- i is the index of the first that is not below the bound
 pub record FirstNotBelow (bound : ℕ) (xs : List ℕ) (i : ℕ) : Type 0 where
@@ -16,9 +16,12 @@ pub record FirstNotBelow (bound : ℕ) (xs : List ℕ) (i : ℕ) : Type 0 where
   pub before : AllBelow bound (take i xs)
   pub here : bound ≤ slice_index xs i
 
--- front numbers are below the bound: all that there are, or the first other one comes after them
-abbrev pub IsFrontBelow : (bound : ℕ) → List ℕ → (front : ℕ) → Type 0
-IsFrontBelow bound xs front = ((front ≡ length xs) × AllBelow bound xs) ⊎ FirstNotBelow bound xs front
+-- what such an index means, of any list and any test: all are good and it is the length, or it is that of the first that is not
+abbrev pub NoneOrFirst : (long : ℕ) (AllGood : Type 0) (FirstOther : ℕ → Type 0) (place : ℕ) → Type 0
+NoneOrFirst long AllGood FirstOther place = ((place ≡ long) × AllGood) ⊎ FirstOther place
+
+abbrev pub NoneOrFirstNotBelow : (bound : ℕ) → List ℕ → (place : ℕ) → Type 0
+NoneOrFirstNotBelow bound xs place = NoneOrFirst (length xs) (AllBelow bound xs) (FirstNotBelow bound xs) place
 
 -- an element: n residues modulo q
 pub record IsElement (n q : ℕ) (xs : List ℕ) : Type 0 where

@@ -1,4 +1,4 @@
--- Faults of layer 1, the ring: what is reported of one, its layer, its number and its place; and what tests answer and leave.
+-- Faults of layer 1, the ring: what is reported of one, its layer, its number and its place; and what tests outcome and leave.
 use Rattle.std.specs.Prelude.{ℕ, Ok, Err, Result, Some, None, Option, Bool, if◌then◌else◌}
 use Rattle.ring.specs.declared.fault.Fault.{Fault}
 use Rattle.ring.specs.declared.fault.Fault.TheVariants.{WrongLength, OutOfRange, SumTooLarge, CoinOutOfRange, SourceSpent}
@@ -26,31 +26,31 @@ place_of fault = (report fault).place
 
 -- ---- what a call answers where tests are tried one after another, and what is there after it: for the faults of any layer
 
--- the answer where a test is passed, and else a refusal with the fault
+-- the outcome where a test is passed, and else a refusal with the fault
 abbrev pub checked : {X F : Type 0} → Bool → F → Result X F → Result X F
-checked test fault answer = if test then answer else Err fault
+checked test fault outcome = if test then outcome else Err fault
 
--- the answer where there is no fault
+-- the outcome where there is no fault
 abbrev pub unless : {X F : Type 0} → Option F → X → Result X F
-unless None answer = Ok answer
-unless (Some fault) answer = Err fault
+unless None outcome = Ok outcome
+unless (Some fault) outcome = Err fault
 
--- the answer that comes after an acceptance
+-- the outcome that comes after an acceptance
 abbrev pub followed : {X A F : Type 0} → Result A F → Result X F → Result X F
-followed (Ok _) answer = answer
-followed (Err fault) answer = Err fault
+followed (Ok _) outcome = outcome
+followed (Err fault) outcome = Err fault
 
--- the answer of a lower layer, whose fault is passed up as one of a higher
+-- the outcome of a lower layer, whose fault is passed up as one of a higher
 abbrev pub passed_up : {X F G : Type 0} → (F → G) → Result X F → Result X G
 passed_up into (Ok x) = Ok x
 passed_up into (Err fault) = Err (into fault)
 
--- the answer with what is told of an accepted value in its place
+-- the outcome with what is told of an accepted value in its place
 abbrev pub told : {X Y F : Type 0} → (X → Y) → Result X F → Result Y F
 told tell (Ok x) = Ok (tell x)
 told tell (Err fault) = Err fault
 
--- what is there after an answer: the new value if it accepts, the old one if it refuses
+-- what is there after an outcome: the new value if it accepts, the old one if it refuses
 abbrev pub after : {X A F : Type 0} → Result A F → X → X → X
 after (Ok _) new old = new
 after (Err _) new old = old

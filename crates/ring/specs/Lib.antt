@@ -1,4 +1,5 @@
 pub mod Elements
 pub mod Faults
+pub mod Moduli
 pub mod Residues
 pub mod Scratch

@@ -1,30 +1,34 @@
-// Why an operation on ring elements refuses.
-ghost use Rattle.std.specs.Prelude.{◌≡◌};
-ghost use Rattle.ring.specs.Faults.{layer_of, number_of, place_of};
+//! Why an operation on ring elements refuses.
 
-// Each case holds the place of the fault: an argument's number for a length, an index for a number of a list, a count for a
-// source. `layer`, `number` and `place` are what is reported of it.
+ghost use Rattle.std.specs.Prelude.{◌≡◌};
+
+/// Each case holds the place of the fault: which argument it is for a length (see `place`), an index for a number of a
+/// list, a count for a source. `layer`, `number` and `place` are what is reported of it.
 #[derive(Clone, Copy, PartialEq, Eq, Debug)]
 pub enum Fault {
-    // a list or a buffer of the wrong length
+    /// a list or a buffer of the wrong length
     WrongLength(usize),
-    // a number out of its range
+    /// a number out of its range
     OutOfRange(usize),
-    // the running sum of sizes passes its limit
+    /// the running sum of sizes passes its limit
     SumTooLarge(usize),
-    // a coin out of range
+    /// a coin out of range
     CoinOutOfRange(usize),
-    // the byte source is used up
+    /// the byte source is used up
     SourceSpent(usize),
 }
 
 impl Fault {
+    ghost use Rattle.ring.specs.Faults.{layer_of, number_of, place_of};
+
+    /// The layer that gives the fault: 1, the ring.
     pub fn layer(self) -> u8
         ensures { result ≡ layer_of self }
     {
         1
     }
 
+    /// The fault's number, from 1 to 5.
     pub fn number(self) -> u8
         ensures { result ≡ number_of self }
     {
@@ -37,6 +41,7 @@ impl Fault {
         }
     }
 
+    /// An argument, an index or a count, as the case says.
     pub fn place(self) -> usize
         ensures { result ≡ place_of self }
     {

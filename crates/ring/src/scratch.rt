@@ -1,8 +1,9 @@
-// Scratch words that are zero again once they are let go.
+//! Scratch words that are zero again once they are let go.
+
 ghost use Rattle.std.specs.Prelude.{◌≡◌};
 ghost use Rattle.ring.specs.Scratch.{zeroed};
 
-// Holds all words of a caller's scratch while they are in use.
+/// Holds all words of a caller's scratch while they are in use.
 pub struct ScratchGuard<'a> {
     pub words: &'a mut [u32],
 }

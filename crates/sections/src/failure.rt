@@ -1,17 +1,18 @@
-// Why a line's message is not shown.
+//! Why a line's message is not shown.
+
 use hex::FromHexError;
 use std::alloc::AllocError;
 use std::io;
 
 #[derive(Debug, Drop)]
 pub enum Failure {
-    // the line is not a kind, a space and lower-case hexadecimal
+    /// the line is not a kind, a space and lower-case hexadecimal
     Malformed,
-    // reading refuses the message
+    /// reading refuses the message
     Refused(message::Fault),
-    // unpacking or writing refuses what was read
+    /// unpacking or writing refuses what was read
     RingFault(ring::Fault),
-    // writing gives other bytes than were read
+    /// writing gives other bytes than were read
     WrittenOtherwise,
     OutOfMemory,
     Io(io::Error),

@@ -1,9 +1,10 @@
-// A line of the input.
+//! A line of the input.
+
 use crate::failure::Failure;
 use message::Kind;
 use std::alloc::Global;
 
-// The word for a kind.
+/// The word for a kind.
 pub fn word_of(kind: Kind) -> &'static str {
     match kind {
         Kind::Offer => "offer",
@@ -21,7 +22,7 @@ fn kind_of(word: &str) -> Result<Kind, Failure> {
     }
 }
 
-// A message, and the kind that it is to be read as.
+/// A message, and the kind that it is to be read as.
 #[derive(Drop)]
 pub struct Line {
     pub kind: Kind,

@@ -1,4 +1,5 @@
-// Whether the parts of a message give its bytes again.
+//! Whether the parts of a message give its bytes again.
+
 ghost use Rattle.std.specs.Prelude.{◌≡◌, MatchResult, OnOk};
 ghost use Rattle.message.specs.Messages.{encoded, offer, answer, confirmation};
 

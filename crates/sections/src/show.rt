@@ -1,4 +1,5 @@
-// What is printed of a message.
+//! What is printed of a message.
+
 ghost use Rattle.std.specs.Prelude.{◌≡◌, IfOk};
 ghost use Rattle.packing.specs.Packing.{unpacked};
 
@@ -14,7 +15,7 @@ use profile::Profile;
 use std::alloc::Global;
 use std::io;
 
-// The n numbers that a section holds.
+/// The n numbers that a section holds.
 fn unpack<P: Profile>(alloc: Global, width: Width, bytes: &[u8]) -> Result<Vec<u32>, Failure>
     ensures { IfOk result (λ numbers. numbers.items ≡ unpacked width.bits P.NUMBERS.n bytes.now) }
 {
@@ -115,7 +116,7 @@ fn show_confirmation<P: Profile>(
     )
 }
 
-// The sections of a message, read by the profile of this name.
+/// The sections of a message, read by the profile of this name.
 pub fn show<P: Profile>(
     rt: &(impl Print + AllocGlobal),
     name: &str,

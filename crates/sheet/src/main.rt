@@ -1,5 +1,6 @@
-// Prints the link sheet: for each house profile its numbers, its head bytes, the lengths of its messages and of its
-// key, and what was measured by going through every residue.
+//! Prints the link sheet: for each house profile its numbers, its head bytes, the lengths of its messages and of its
+//! key, and what was measured by going through every residue.
+
 #![tactic(auto)]
 
 use house::{House, NumberSet, S, T, W};
@@ -11,7 +12,7 @@ use std::fmt::Display;
 use std::io;
 use survey::{count_keys, last_coin, last_signal, survey_rounding};
 
-// Why a sheet was not printed.
+/// Why a sheet was not printed.
 #[derive(Debug, Drop)]
 enum Failure {
     Output(io::Error),

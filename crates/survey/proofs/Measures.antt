@@ -5,7 +5,7 @@ use Rattle.std.proofs.lemmas.Int.{ints, clamps}
 use Rattle.std.proofs.lemmas.Bool.{le-leb, lt-leb, and_left, cases_lt, cases_cond, cond_both}
 use Rattle.std.specs.Int.{int_min, int_max}
 use Rattle.profile.proofs.Accepted.{recovered}
-use Rattle.profile.specs.Answers.{recover_answer}
+use Rattle.profile.specs.Outcomes.{recover_outcome}
 use Rattle.profile.specs.Counts.{count}
 use Rattle.profile.specs.Laws.{Functions, Lawful}
 use Rattle.profile.specs.declared.numbers.Numbers.{Numbers}
@@ -31,7 +31,7 @@ module _ (k : Numbers) (f : Functions) (x y t : ℕ) (y_is : y ≡ f.round x) (t
       sym (and_left _ _ (ap (λ n. leb (n + k.step) k.p) (sym y_is) ∙ lt-leb (y + k.step) k.p none))
 
 -- what is recovered stays below 2^24
-pub recovered_below : (k : Numbers) (f : Functions) → Lawful k f → (y t : ℕ) → recover_answer k f y ≡ Ok t → t < 2 ^ 24
+pub recovered_below : (k : Numbers) (f : Functions) → Lawful k f → (y t : ℕ) → recover_outcome k f y ≡ Ok t → t < 2 ^ 24
 recovered_below k f lawful y t e =
     ⊎_elim
     (λ over. absurd (let refused = lt-leb y k.p over in let z : ◌≡◌ {A = ℕ} 0 1 = cc in omega arith))

@@ -40,12 +40,12 @@ pub record Surveyed (k : Numbers) (f : Functions) (n : ℕ) (s : RoundingSurvey)
 abbrev pub widened : RoundingSurvey → ℤ → Bool → RoundingSurvey
 widened s d tied = record { least = int_min s.least d; largest = int_max s.largest d; ties = s.ties + (if tied then 1 else 0) }
 
-abbrev pub rounding_answer : Numbers → Functions → Result RoundingSurvey Fault → Type 0
-rounding_answer k f (Ok s) = Surveyed k f k.q s
-rounding_answer k f (Err fault) = ⊥
+abbrev pub rounding_outcome : Numbers → Functions → Result RoundingSurvey Fault → Type 0
+rounding_outcome k f (Ok s) = Surveyed k f k.q s
+rounding_outcome k f (Err fault) = ⊥
 
-abbrev pub keys_answer : Numbers → Functions → ℕ → ℕ → Result KeyCounts Fault
-keys_answer k f coin signal =
+abbrev pub keys_outcome : Numbers → Functions → ℕ → ℕ → Result KeyCounts Fault
+keys_outcome k f coin signal =
     checked (nat_lt signal (2 ^ k.signal_width)) (OutOfRange 0)
     (checked (nat_lt coin k.coins) (CoinOutOfRange 0)
     (Ok (record {

@@ -1,6 +1,7 @@
-// How a signal divides the residues of a profile between the two key bits.
+//! How a signal divides the residues of a profile between the two key bits.
+
 ghost use Rattle.std.specs.Prelude.{◌≡◌, ◌-◌, ◌^◌};
-ghost use Rattle.survey.specs.Surveys.{KeysMeans, keys_answer};
+ghost use Rattle.survey.specs.Surveys.{KeysMeans, keys_outcome};
 
 use profile::Profile;
 use ring::Fault;
@@ -11,24 +12,24 @@ pub struct KeyCounts {
     pub ones: u32,
 }
 
-// The largest coin.
+/// The largest coin.
 pub fn last_coin<P: Profile>() -> u8
     ensures { result ≡ P.NUMBERS.coins - 1 }
 {
     (P::NUMBERS.coins - 1) as u8
 }
 
-// The largest signal.
+/// The largest signal.
 pub fn last_signal<P: Profile>() -> u32
     ensures { result ≡ 2 ^ P.NUMBERS.signal_width - 1 }
 {
     (1u32 << P::NUMBERS.signal_width) - 1
 }
 
-// How many residues a coin gives this signal with key bit 0, and how many with key bit 1.
+/// How many residues a coin gives this signal with key bit 0, and how many with key bit 1.
 #[tactic(auto, using(crate::proofs::Measures::count_more))]
 pub fn count_keys<P: Profile>(coin: u8, signal: u32) -> Result<KeyCounts, Fault>
-    ensures answer { result ≡ keys_answer P.NUMBERS P.functions coin signal }
+    ensures outcome { result ≡ keys_outcome P.NUMBERS P.functions coin signal }
     ensures means { KeysMeans P.NUMBERS P.functions coin signal result }
 {
     if signal > last_signal::<P>() {

@@ -1,4 +1,5 @@
-// Measures a profile by going through every residue.
+//! Measures a profile by going through every residue.
+
 #![tactic(auto)]
 
 mod keys;

@@ -1,21 +1,22 @@
-// How far rounding moves the residues of a profile.
+//! How far rounding moves the residues of a profile.
+
 ghost use Rattle.std.specs.Prelude.{◌≡◌, ◌^◌, ◌<◌, Ok, if◌then◌else◌};
-ghost use Rattle.survey.specs.Surveys.{distance, tie, rounding_answer, widened};
+ghost use Rattle.survey.specs.Surveys.{distance, tie, rounding_outcome, widened};
 
 use profile::Profile;
 use ring::Fault;
 
 #[derive(Clone, Copy, PartialEq, Eq, Debug)]
 pub struct RoundingSurvey {
-    // the least and the largest of recovered less original
+    /// the least and the largest of recovered less original
     pub least: i32,
     pub largest: i32,
-    // how many residues lie midway between two values
+    /// how many residues lie midway between two values
     pub ties: u32,
 }
 
 impl RoundingSurvey {
-    // The survey with one more residue.
+    /// The survey with one more residue.
     fn widen(self, one: Rounded) -> Self
         requires { self.ties < 2 ^ 23 }
         ensures { result ≡ widened self one.distance one.tie }
@@ -35,7 +36,7 @@ struct Rounded {
 }
 
 impl Rounded {
-    // How far the residue x is moved, and whether the next value is as near.
+    /// How far the residue x is moved, and whether the next value is as near.
     fn of<P: Profile>(x: u32) -> Result<Self, Fault>
         requires { x < P.NUMBERS.q }
         ensures { result ≡ Ok (record { distance = distance P.functions x; tie = tie P.NUMBERS P.functions x }) }
@@ -52,7 +53,7 @@ impl Rounded {
 }
 
 impl From<Rounded> for RoundingSurvey {
-    // The survey of one residue.
+    /// The survey of one residue.
     fn from(one: Rounded) -> Self
         ensures { result ≡ record { least = one.distance; largest = one.distance; ties = if one.tie then 1 else 0 } }
     {
@@ -64,9 +65,9 @@ impl From<Rounded> for RoundingSurvey {
     }
 }
 
-// Rounds and recovers every residue.
+/// Rounds and recovers every residue.
 pub fn survey_rounding<P: Profile>() -> Result<RoundingSurvey, Fault>
-    ensures { rounding_answer P.NUMBERS P.functions result }
+    ensures { rounding_outcome P.NUMBERS P.functions result }
 {
     let mut survey = RoundingSurvey::from(Rounded::of::<P>(0)?);
     for x in 1..P::NUMBERS.q {

@@ -2,7 +2,7 @@
 use Rattle.std.specs.Prelude.{◌≡◌, ℕ, ◌+◌, ◌*◌, List, [], take, drop, slice_index}
 use Rattle.element.specs.Products.{product}
 use Rattle.keccak.specs.Sponge.{shake128}
-use Rattle.source.specs.Derivation.{derived}
+use Rattle.byte_source.specs.Derivation.{derived}
 use Rattle.exports.specs.ByProfile.{by_profile}
 use Rattle.exports.specs.Profiles.{round_code, recover_code, reconcile_code, read_code}
 use Rattle.vectors.specs.declared.line.Group.{Group}

@@ -1,9 +1,10 @@
-// Whether a vector holds of the library.
+//! Whether a vector holds of the library.
+
 ghost use Rattle.std.specs.Prelude.{◌≡◌, ◌≤◌, ◌↔◌, true, [], length, IfOk, IsTrue};
 ghost use Rattle.element.specs.Products.{product};
 ghost use Rattle.exports.specs.ByProfile.{by_profile};
 ghost use Rattle.keccak.specs.Sponge.{shake128};
-ghost use Rattle.source.specs.Derivation.{derived};
+ghost use Rattle.byte_source.specs.Derivation.{derived};
 ghost use Rattle.vectors.specs.Holding.{OutputHolds, ProductHolds, DerivedHolds};
 ghost use Rattle.vectors.specs.Holding.{RoundedHolds, ReconciledHolds, ReadHolds, Holds};
 
@@ -17,7 +18,7 @@ use std::alloc::Global;
 
 const MALFORMED: &str = "a line of the wrong length";
 
-// The largest count that a line has: none of its lists is longer.
+/// The largest count that a line has: none of its lists is longer.
 const MOST: usize = 4096;
 
 fn bytes(alloc: Global, numbers: &[u32]) -> anyhow::Result<Vec<u8>>
@@ -39,7 +40,7 @@ fn count(number: u32) -> anyhow::Result<usize>
     Ok(count)
 }
 
-// Whether SHAKE128 of the message is the expected output.
+/// Whether SHAKE128 of the message is the expected output.
 fn hashes_to(message: &[u8], expected: &[u8], output: &mut [u8]) -> bool
     ensures { IsTrue result ↔ (shake128 message.now (length output.old) ≡ expected.now) }
 {
@@ -64,14 +65,14 @@ fn check_output(alloc: Global, numbers: &[u32]) -> anyhow::Result<bool>
     Ok(hashes_to(&message, &expected, &mut output))
 }
 
-// How to multiply: `as u8` gives the number that the exported function has for it.
+/// How to multiply: `as u8` gives the number that the exported function has for it.
 #[derive(Clone, Copy)]
 enum Algorithm {
     Schoolbook,
     RowSum,
 }
 
-// Two elements modulo q, and what their product is expected to be.
+/// Two elements modulo q, and what their product is expected to be.
 #[derive(Clone, Copy)]
 struct ExpectedProduct<'a> {
     q: u32,
@@ -81,7 +82,7 @@ struct ExpectedProduct<'a> {
 }
 
 impl ExpectedProduct<'_> {
-    // Whether the elements are accepted and multiplied to that product.
+    /// Whether the elements are accepted and multiplied to that product.
     fn is_given_by(&self, algorithm: Algorithm, scratch: &mut [u32], output: &mut [u32]) -> bool
         ensures { let expected = self.now in result ≡ true
             → product (length expected.left.now) expected.q expected.left.now expected.right.now
@@ -120,7 +121,7 @@ fn check_product(alloc: Global, numbers: &[u32]) -> anyhow::Result<bool>
     Ok(by_schoolbook && by_row_sum)
 }
 
-// Whether a seed gives an element, which the output then holds.
+/// Whether a seed gives an element, which the output then holds.
 #[tactic(auto, using(std::proofs::lemmas::Bool::Decides::nat_tests))]
 fn derives(profile: u8, seed: &[u8], output: &mut [u32]) -> bool
     ensures { let element = by_profile (λ k _. derived k.n k.q (shake128 seed.now 4032)) [] profile in
@@ -129,7 +130,7 @@ fn derives(profile: u8, seed: &[u8], output: &mut [u32]) -> bool
     exported_derive_shake(profile, seed, output) == DONE
 }
 
-// Whether a seed gives the expected element.
+/// Whether a seed gives the expected element.
 fn derives_to(profile: u8, seed: &[u8], expected: &[u32], output: &mut [u32]) -> bool
     ensures { let element = by_profile (λ k _. derived k.n k.q (shake128 seed.now 4032)) [] profile in
         result ≡ true → element ≡ expected.now }
@@ -173,8 +174,8 @@ fn check_reconciled(numbers: &[u32]) -> anyhow::Result<bool>
     let [profile, x, coin, signal, bit] = numbers else {
         bail!(MALFORMED);
     };
-    let answer = exported_reconcile(u8::try_from(*profile)?, *x, u8::try_from(*coin)?);
-    Ok(answer == 2 * u64::from(*signal) + u64::from(*bit))
+    let code = exported_reconcile(u8::try_from(*profile)?, *x, u8::try_from(*coin)?);
+    Ok(code == 2 * u64::from(*signal) + u64::from(*bit))
 }
 
 fn check_read(numbers: &[u32]) -> anyhow::Result<bool>
@@ -183,8 +184,8 @@ fn check_read(numbers: &[u32]) -> anyhow::Result<bool>
     let [profile, y, signal, bit] = numbers else {
         bail!(MALFORMED);
     };
-    let answer = exported_read(u8::try_from(*profile)?, *y, u8::try_from(*signal)?);
-    Ok(answer == u64::from(*bit))
+    let code = exported_read(u8::try_from(*profile)?, *y, u8::try_from(*signal)?);
+    Ok(code == u64::from(*bit))
 }
 
 pub fn check(alloc: Global, group: Group, numbers: &[u32]) -> anyhow::Result<bool>

@@ -1,4 +1,5 @@
-// A line of the input: a word for the group, then numbers.
+//! A line of the input: a word for the group, then numbers.
+
 ghost use Rattle.std.specs.Prelude.{◌≡◌, ◌≢◌, ◌≤◌, ◌⊎◌, ◌↔◌, Ok, IfOk, IsTrue, codes};
 ghost use Rattle.hex.specs.Hex.{decode_of};
 
@@ -9,23 +10,23 @@ use std::str::FromStr;
 
 #[derive(Clone, Copy, PartialEq, Eq, PartialOrd, Ord, Debug)]
 pub enum Group {
-    // the bytes of a message and of its output, each after their count
+    /// the bytes of a message and of its output, each after their count
     Published,
     Output,
-    // n, q, two elements and their product
+    /// n, q, two elements and their product
     Product,
-    // a profile, n, a seed and its element
+    /// a profile, n, a seed and its element
     Derived,
-    // a profile, a residue, its rounded value, and what that recovers to
+    /// a profile, a residue, its rounded value, and what that recovers to
     Rounded,
-    // a profile, a residue, a coin, and their signal and key bit
+    /// a profile, a residue, a coin, and their signal and key bit
     Reconciled,
-    // a profile, a residue, a signal, and the key bit that is read
+    /// a profile, a residue, a signal, and the key bit that is read
     Read,
 }
 
 impl Group {
-    // in the order in which they are printed
+    /// in the order in which they are printed
     pub const ALL: [Group; 7] = [
         Group::Published,
         Group::Output,
@@ -81,7 +82,7 @@ fn is_lower_hex_digit(text: &u8) -> bool
     matches!(*text, b'0'..=b'9' | b'a'..=b'f')
 }
 
-// The bytes of a text in hexadecimal with small letters, of which `-` has none.
+/// The bytes of a text in hexadecimal with small letters, of which `-` has none.
 fn hex_bytes(alloc: Global, text: &str) -> anyhow::Result<Vec<u8>>
     ensures { IfOk result (λ bytes. text.now ≢ codes "-" → decode_of text.now ≡ Ok bytes.items) }
 {
@@ -98,7 +99,7 @@ fn hex_bytes(alloc: Global, text: &str) -> anyhow::Result<Vec<u8>>
     Ok(hex::decode(alloc, text)?)
 }
 
-// The counts and the bytes of a message and an output.
+/// The counts and the bytes of a message and an output.
 fn hash_numbers(alloc: Global, message: &[u8], output: &[u8]) -> anyhow::Result<Vec<u32>> {
     let mut numbers = Vec::new(alloc);
     numbers.push(u32::try_from(message.len())?)?;
@@ -107,7 +108,7 @@ fn hash_numbers(alloc: Global, message: &[u8], output: &[u8]) -> anyhow::Result<
     Ok(numbers)
 }
 
-// The vector that a line states, if it is no comment.
+/// The vector that a line states, if it is no comment.
 pub fn read_line(alloc: Global, text: &str) -> anyhow::Result<Option<Vector>> {
     let mut words = text.split_whitespace();
     let Some(first) = words.next() else {

@@ -11,7 +11,7 @@ use Rattle.ring.proofs.Residues.{residue_below}
 use Rattle.ring.specs.Residues.{residue, IsModulus}
 use Rattle.ring.specs.declared.fault.Fault.{Fault}
 use Rattle.ring.specs.declared.fault.Fault.TheVariants.{OutOfRange, CoinOutOfRange}
-use Rattle.profile.specs.Answers.{reconciled}
+use Rattle.profile.specs.Outcomes.{reconciled}
 use Rattle.profile.specs.Laws.{key_count}
 use Rattle.reconcile.specs.LawProofs.Counts.{count_interval}
 use Rattle.reconcile.specs.Okcn.{okcn_signal, okcn_key_bit, okcn_read, okcn_functions, okcn_numbers}

@@ -1,6 +1,6 @@
 use Rattle.std.proofs.Common.{refl}
 use Rattle.element.specs.Products.{product, integer_product, coefficient, sum_to}
-use Rattle.house.proofs.theorems.bench_values_hold.Goals as goal
+use Rattle.house.proofs.theorems.worked_values_hold.Goals as goal
 
 -- each value is computed
 pub returns : goal.returns

@@ -1,5 +1,5 @@
 use Rattle.std.proofs.Common.{subst, arith}
-use Rattle.profile.proofs.Fronts.{lawful_within}
+use Rattle.profile.proofs.Secrets.{lawful_within}
 use Rattle.profile.specs.Secrets.{LawfulSecret}
 use Rattle.profile.specs.declared.bounds.Bounds.{Bounds}
 use Rattle.profile.proofs.holding.PlaceSecretPlace.fill.Goals as goal

@@ -1,23 +1,23 @@
 use Rattle.std.proofs.Common.{◌≡◌, ℕ, ◌/◌, ◌<◌, ℤ, pos, ◌+ℤ◌, ◌-ℤ◌, Ok, sym, ap, ◌∙◌, arith, w32, to_z, of_z}
 use Rattle.std.proofs.lemmas.Int.{ints}
 use Rattle.std.proofs.lemmas.Bool.Decides.{nat_tests}
-use Rattle.ring.specs.Residues.{signed, signed_answer}
-use Rattle.profile.specs.Answers.{reconciled}
+use Rattle.ring.specs.Residues.{signed, signed_outcome}
+use Rattle.profile.specs.Outcomes.{reconciled}
 use Rattle.reconcile.specs.Ding.{ding_signal, ding_read, ding_functions}
 use Rattle.reconcile.specs.LawProofs.Ding.{region_signal, signal_inside, signal_under, signal_over, signal_at}
 use Rattle.reconcile.proofs.ding.DingReconciler.reconcile.Goals as goal
 use Rattle.reconcile.proofs.ding.DingReconciler.reconcile.Goals.{in-0, in-0-2, in-0-2-2, in-1, in-1-2, in-1-2-2}
 
 -- what a signed form that is answered tells of the residue
-module _ (q x : ℕ) (s : ℤ) (e : Ok s ≡ signed_answer q x) where
-  answered_below : x < q
-  answered_below = grind (arith, nat_tests)
+module _ (q x : ℕ) (s : ℤ) (e : Ok s ≡ signed_outcome q x) where
+  signed_below : x < q
+  signed_below = grind (arith, nat_tests)
 
-  answered_signed : s ≡ signed q x
-  answered_signed = grind (arith, nat_tests)
+  signed_is : s ≡ signed q x
+  signed_is = grind (arith, nat_tests)
 
-both_answered : (q x coin signal bit : ℕ) → x < q → coin < 2 → signal ≡ ding_signal q x coin → bit ≡ ding_read q x signal → Ok (signal, bit) ≡ reconciled q 2 (ding_signal q) (ding_functions.key_bit q) x coin
-both_answered q x coin signal bit below small e f = grind (arith, nat_tests)
+both_given : (q x coin signal bit : ℕ) → x < q → coin < 2 → signal ≡ ding_signal q x coin → bit ≡ ding_read q x signal → Ok (signal, bit) ≡ reconciled q 2 (ding_signal q) (ding_functions.key_bit q) x coin
+both_given q x coin signal bit below small e f = grind (arith, nat_tests)
 
 -- an i32, as the code holds it
 abbrev held : ℤ → ℤ
@@ -51,6 +51,6 @@ returns c =
       | in-1-2 w ↦ by-1 w.in-1.is (w.signal-is ∙ sym (signal_over low-1 high-1 at w.if-s-r-2.false))
       | in-1-2-2 w ↦ by-1 w.in-1.is (w.signal-is ∙ sym (signal_under low-1 high-1 at w.if-r-s-2.false))
     ] in
-    both_answered q c.args.x coin c.match-coin.signal _ (answered_below _ _ _ told) way.0
-    (way.1 ∙ ap (signal_at q coin) (answered_signed _ _ _ told))
+    both_given q c.args.x coin c.match-coin.signal _ (signed_below _ _ _ told) way.0
+    (way.1 ∙ ap (signal_at q coin) (signed_is _ _ _ told))
     c.key_bit.ensures

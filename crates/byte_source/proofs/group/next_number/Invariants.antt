@@ -1,0 +1,15 @@
+use Rattle.std.proofs.Common.{◌≡◌, ◌*◌, ◌^◌, ◌<◌}
+use Rattle.byte_source.specs.Derivation.{WholeGroup}
+use Rattle.byte_source.specs.Reading.{ahead}
+use Rattle.byte_source.proofs.group.next_number.Given as goal
+
+-- the first i bytes are read
+abbrev pub invariant-loop-i : goal.invariant-loop-i
+invariant-loop-i g l =
+    let s = g.S.ByteSource in
+    record {
+      same_meaning : s.meaning l.source ≡ s.meaning l.initial.source;
+      reads : s.reading l.source ≡ s.reading l.initial.source;
+      group : WholeGroup l.i (ahead s l.initial.source) l.number (ahead s l.source);
+      low : l.number < 2 ^ (8 * l.i);
+    }

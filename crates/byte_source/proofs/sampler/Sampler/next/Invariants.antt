@@ -1,0 +1,17 @@
+use Rattle.std.proofs.Common.{◌≡◌, length}
+use Rattle.byte_source.specs.Derivation.{kept}
+use Rattle.byte_source.specs.Reading.{ahead}
+use Rattle.byte_source.proofs.sampler.Sampler.next.Given as goal
+
+-- the groups so far gave nothing that is kept
+abbrev pub invariant-loop-number : goal.invariant-loop-number
+invariant-loop-number g l =
+    let s = g.S.ByteSource in
+    record {
+      same_meaning : s.meaning l.source ≡ s.meaning l.initial.source;
+      same_list : s.reading l.source ≡ s.reading l.initial.source;
+      keeps : kept l.self.modulus.q (ahead s l.source) ≡ kept l.self.modulus.q (ahead s l.initial.source);
+    }
+
+abbrev pub decreases-loop-number : goal.decreases-loop-number
+decreases-loop-number g l = length (ahead g.S.ByteSource l.source)

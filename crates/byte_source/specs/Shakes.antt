@@ -1,0 +1,23 @@
+-- What a source of SHAKE128 means, and where it is.
+use Rattle.std.specs.Prelude.{ℕ, ◌+◌, ◌-◌, ◌*◌, List, []}
+use Rattle.std.specs.Option.{option_map_or}
+use Rattle.keccak.specs.Sponge.{shake128}
+use Rattle.byte_source.specs.declared.shake.ShakeSource.{ShakeSource}
+use Rattle.byte_source.specs.declared.stream.Stream.{Stream}
+
+-- 24 blocks of 168 bytes
+abbrev pub stream_bytes : Stream → List ℕ
+stream_bytes stream = shake128 stream.seed.value 4032
+
+-- all the bytes but those of the blocks to come, and those of the last block that are still to be given
+abbrev pub stream_position : Stream → ℕ
+stream_position stream = 4032 - (168 * stream.left + (168 - stream.offset))
+
+abbrev pub shake_meaning : ShakeSource → List ℕ → List ℕ
+shake_meaning source seed = shake128 seed 4032
+
+abbrev pub shake_reading : ShakeSource → List ℕ
+shake_reading source = option_map_or stream_bytes source.stream []
+
+abbrev pub shake_position : ShakeSource → ℕ
+shake_position source = option_map_or stream_position source.stream 0
