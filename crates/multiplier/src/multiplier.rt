@@ -31,8 +31,8 @@ pub trait Multiplier: Drop {
     fn scratch_words(&self) -> usize
         ensures { result ≡ need self.now };
 
-    /// Writes the product of two elements, coefficient 0 first, or refuses and leaves the output as
-    /// it was. Scratch may be longer than the need; all of it is zero afterwards.
+    /// Writes the product of two elements, coefficient 0 first, or refuses and leaves the output
+    /// as it was. Scratch may be longer than the need; all of it is zero afterwards.
     fn multiply(
         &mut self,
         left: &[u32],
