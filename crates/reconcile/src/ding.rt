@@ -11,9 +11,9 @@ pub struct Ding;
 
 /// The parity of the signed form of y, which a signal of 1 moves by (q - 1) / 2.
 fn key_bit(q: Modulus, y: u32, signal: u32) -> u32
-    requires inside { y < q.q }
+    requires inside { y < q }
     requires small { signal < 2 }
-    ensures { result ≡ ding_read q.q y signal }
+    ensures { result ≡ ding_read q y signal }
 {
     let moved = (y + signal * ((q.value() - 1) / 2)) % q.value();
     q.signed(moved).unwrap().unsigned_abs() % 2

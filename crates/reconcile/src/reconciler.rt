@@ -33,11 +33,11 @@ pub trait Reconciler {
 
     /// The signal and the key bit of a residue and a coin.
     fn reconcile(q: Modulus, x: u32, coin: u8) -> Result<(u32, u32), Fault>
-        ensures { result ≡ reconciled q.q NUMBERS.coins (meaning.signal q.q) (meaning.key_bit q.q) x coin };
+        ensures { result ≡ reconciled q NUMBERS.coins (meaning.signal q) (meaning.key_bit q) x coin };
 
     /// The key bit that a residue and the other end's signal give.
     fn read(q: Modulus, y: u32, signal: u32) -> Result<u32, Fault>
-        ensures { result ≡ key_bit_read q.q NUMBERS.signal_width (meaning.read q.q) y signal };
+        ensures { result ≡ key_bit_read q NUMBERS.signal_width (meaning.read q) y signal };
 
     ghost sound: { Sound NUMBERS meaning };
 }

@@ -28,7 +28,7 @@ same_signal e f g = cc
 
 pub returns : goal.returns
 returns c =
-    let q = c.args.q.q in
+    let q = c.args.q in
     let coin = c.args.coin in
     let s = c.in_ok-s.s in
     let told = c.in_ok-s.ensures.value in
