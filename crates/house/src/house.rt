@@ -19,8 +19,9 @@ pub struct House<N, R> {
     parts: PhantomData<(N, R)>,
 }
 
-/// The modulus of a number set. `profile::modulus` gives the same of a profile, but the impl of Profile below cannot call it for
-/// itself: the check covers no call that leads back to a method of the same impl.
+/// The modulus of a number set. `profile::modulus` gives the same of a profile, but the impl of
+/// Profile below cannot call it for itself: the check covers no call that leads back to a method
+/// of the same impl.
 fn modulus_of<N: NumberSet>() -> Modulus
     ensures { result ≡ N.SIZES.q }
 {
@@ -33,10 +34,10 @@ fn rounding<N: NumberSet, R: Reconciler>() -> Rounding
     ensures p { result.p ≡ N.SIZES.p }
     ensures step { result.step ≡ R.NUMBERS.step }
 {
-    let s = N::SIZES;
+    let sizes = N::SIZES;
     Rounding {
-        q: s.q,
-        p: s.p,
+        q: sizes.q,
+        p: sizes.p,
         step: R::NUMBERS.step,
     }
 }

@@ -1,4 +1,4 @@
-//! House rounding: a residue below q goes to a value in 0 .. p of its own class modulo step, and back.
+//! House rounding: a residue goes to a value in 0 .. p of its own class modulo step, and back.
 
 ghost use Rattle.std.specs.Prelude.{◌≡◌, ◌+◌, ◌*◌, ◌/◌, ◌^◌, ◌<◌, ◌≤◌};
 ghost use Rattle.house.specs.Rounding.{recover as recover_value, round as round_value};

@@ -1,4 +1,5 @@
-//! The reconciler of the Ding key exchange: an inner region by one signal bit, and a parity for the key bit.
+//! The reconciler of the Ding key exchange: an inner region by one signal bit, and a parity for
+//! the key bit.
 
 ghost use Rattle.std.specs.Prelude.{◌≡◌, ◌<◌};
 ghost use Rattle.reconcile.specs.Ding.{ding_functions, ding_numbers, ding_read};
@@ -7,6 +8,7 @@ ghost use Rattle.reconcile.specs.LawProofs.Ding.{ding_sound};
 use crate::reconciler::{Reconciler, ReconcilerNumbers, Tolerance};
 use ring::{Fault, Modulus};
 
+/// The reconciler of the Ding key exchange. It tolerates even differences up to floor((q - 4) / 4).
 pub struct Ding;
 
 /// The parity of the signed form of y, which a signal of 1 moves by (q - 1) / 2.

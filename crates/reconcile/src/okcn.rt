@@ -6,6 +6,8 @@ ghost use Rattle.reconcile.specs.LawProofs.Okcn.{okcn_sound};
 use crate::reconciler::{Reconciler, ReconcilerNumbers, Tolerance};
 use ring::{Fault, Modulus};
 
+/// The reconciler OKCN with two key values and four bands. It tolerates any differences up to
+/// floor((3 q - 8) / 16).
 pub struct Okcn;
 
 impl Reconciler for Okcn {

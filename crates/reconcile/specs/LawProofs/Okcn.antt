@@ -1,7 +1,7 @@
 -- OKCN: the eight bands of 0 .. 2q - 1, what is read near one, and how many residues each has.
 use Rattle.std.specs.Prelude.{◌≡◌, ℕ, zero, suc, ◌+◌, ◌-◌, ◌*◌, ◌/◌, ◌%◌, ◌<◌, ◌≤◌, ◌&&◌, ℤ, pos, negsuc, ◌+ℤ◌, ◌-ℤ◌, ◌*ℤ◌, Ok, Err, Decides, Result, ◌==◌, unsigned_abs, refl}
-use Rattle.std.proofs.Common.{inl, ◌∙◌, ap, add-mul, mul_assoc, mul_left_comm, mul-le-mul_right, mod-eq_of_lt, div-add-mod', div-mul-le_self, arith, lit<, lit≤}
-use Rattle.std.proofs.Math.Nat.{mod-eq-sub-mod, div-eq_of_lt, div-eq_of_lt-le, lt-div-mul-add, add-mul-div_right, mul-add-div_right}
+use Rattle.std.proofs.Common.{inl, ◌∙◌, ap, add-mul, mul_assoc, mul_left_comm, mul-le-mul_right, div-add-mod', div-mul-le_self, arith, lit<, lit≤}
+use Rattle.std.proofs.Math.Nat.{div-eq_of_lt-le, lt-div-mul-add, add-mul-div_right, mul-add-div_right}
 use Rattle.std.proofs.lemmas.Nat.{div_below, mod_below, div-mul-add}
 use Rattle.std.proofs.lemmas.Int.{ints, int_rem_euclid_is}
 use Rattle.std.proofs.lemmas.Bool.{cond_below}

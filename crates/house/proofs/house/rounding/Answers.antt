@@ -6,7 +6,7 @@ use Rattle.house.proofs.house.rounding.Goals as goal
 
 pub invariant_of-result : goal.invariant_of-result
 invariant_of-result g c =
-    let admits : Admissible c.SIZES-s.result = rw c.SIZES-s.ensures g.N.NumberSet.admissible in
+    let admits : Admissible c.SIZES-sizes.result = rw c.SIZES-sizes.ensures g.N.NumberSet.admissible in
     let small : SmallNumbers c.NUMBERS.result = rw c.NUMBERS.ensures g.met.R.Reconciler.sound.small in
     record {
       positive = p_positive _ admits;

@@ -8,7 +8,7 @@ use Rattle.reconcile.specs.LawProofs.Ding.{region_signal, signal_inside, signal_
 use Rattle.reconcile.proofs.ding.DingReconciler.reconcile.Goals as goal
 use Rattle.reconcile.proofs.ding.DingReconciler.reconcile.Goals.{in-0, in-0-2, in-0-2-2, in-1, in-1-2, in-1-2-2}
 
--- what a signed form that is answered tells of the residue
+-- what a signed form that is given tells of the residue
 module _ (q x : ℕ) (s : ℤ) (e : Ok s ≡ signed_outcome q x) where
   signed_below : x < q
   signed_below = grind (arith, nat_tests)
