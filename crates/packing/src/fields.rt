@@ -27,7 +27,7 @@ impl<'a> Model for Fields<'a> {
 
 impl<'a> Fields<'a> {
     /// The list, or the index of the first number that has more bits than the width.
-    #[tactic(auto, using(ring::proofs::Elements::all_below, ring::proofs::Elements::is_first_not_below))]
+    #[tactic(auto, using(crate::proofs::Fitting::where_it_stops))]
     pub fn check(width: Width, numbers: &'a [u32]) -> Result<Self, usize>
         ensures outcome { MatchResult result
             (λ _. length numbers.now ≤ first_not_below (2 ^ width) numbers.now)

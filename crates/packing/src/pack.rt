@@ -33,13 +33,14 @@ impl Fields<'_> {
 }
 
 impl Width {
-    /// Packs numbers, of which each has to have no more bits than the width. A wrong length is found
-    /// before them.
+    /// Packs numbers, of which each has to have no more bits than the width. A wrong length is
+    /// found before them.
     pub fn pack(self, numbers: &[u32], output: &mut [u8]) -> Result<(), Fault>
         ensures outcome { result ≡ pack_numbers_outcome self numbers.now (length output.old) }
         ensures means { PackNumbersMeans self numbers.now (length output.old) result }
         ensures writes { output.new ≡ after result (packed self numbers.now) output.old }
-        ensures unpacks_back { OnOk result (unpacked self (length numbers.now) output.new ≡ numbers.now) }
+        ensures unpacks_back { let xs = numbers.now in
+            OnOk result (unpacked self (length xs) output.new ≡ xs) }
     {
         if output.len() as u128 != self.packed_length(numbers.len()) {
             return Err(Fault::WrongLength(place::OUTPUT));
@@ -79,8 +80,8 @@ fn pack_eight(bits: u32, numbers: &[u32], output: &mut [u8])
     }
 }
 
-/// The number whose digits are up to eight numbers: it has at most 128 bits. Half of them fit a machine
-/// word.
+/// The number whose digits are up to eight numbers: it has at most 128 bits. Half of them fit a
+/// machine word.
 fn joined(bits: u32, digits: &[u32]) -> u128
     requires narrow { bits ≤ 16 }
     requires few { length digits.now ≤ 8 }

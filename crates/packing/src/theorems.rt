@@ -10,8 +10,8 @@ pub fn packing_is_lawful()
     ensures { PackingIsLawful }
 {}
 
-/// Each outcome of packing and unpacking says that all is right, or what is wrong first; and what is
-/// right is accepted.
+/// Each outcome of packing and unpacking says that all is right, or what is wrong first; and what
+/// is right is accepted.
 #[tactic(auto, using(crate::proofs::Refusals::packing_refuses_the_first))]
 pub fn packing_refuses_the_first()
     ensures { PackingRefusesTheFirst }

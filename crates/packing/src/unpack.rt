@@ -11,8 +11,8 @@ use crate::width::Width;
 use ring::{Fault, place};
 
 impl Width {
-    /// Reads as many numbers of this width as `numbers` has room for from their bytes, which have to have
-    /// their length. Spare bits are not looked at.
+    /// Reads as many numbers of this width as `numbers` has room for from their bytes, which have
+    /// to have their length. Spare bits are not looked at.
     pub fn unpack(self, bytes: &[u8], numbers: &mut [u32]) -> Result<(), Fault>
         ensures outcome { result ≡ unpack_outcome self bytes.now (length numbers.old) }
         ensures means { UnpackMeans self bytes.now (length numbers.old) result }
