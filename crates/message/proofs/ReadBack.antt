@@ -15,10 +15,9 @@ use Rattle.packing.proofs.Digits.{number_below}
 use Rattle.message.specs.declared.kind.Kind.TheVariants.{Offer, Answer, Confirmation}
 use Rattle.message.specs.Messages.{offer, answer, confirmation, AreNumbers, HasLawfulParts, IsRound, encoded, head, section}
 use Rattle.message.specs.MessageLaws.{ReadsBack}
-use Rattle.message.specs.Reading.{head_fault, head_of, reading, round_in, signals_at, spare_bit_fault, spare_fault}
+use Rattle.message.specs.Reading.{head_fault, reading, round_in, spare_bit_fault, spare_fault}
 use Rattle.ring.specs.Faults.{unless}
-use Rattle.message.specs.Sections.{stretch}
-use Rattle.message.specs.Shapes.{layout, shape_fault}
+use Rattle.message.specs.Shapes.{contents, layout, offset, shape_fault}
 use Rattle.message.proofs.Heads.{head_right, round_back}
 use Rattle.message.proofs.LengthBounds.{packed_length_most}
 use Rattle.message.proofs.Rows.{found, found_here, ends}
@@ -62,12 +61,12 @@ module _ (k : Numbers) (range : InRange k) where
       (option_or (found m (section h) seed (section v) 9 16 refl refl lawful.1.long (omega arith) j)
       (option_or (found m (section h ++ section seed) v [] 27 many third front v_long values_few j)
       (ends (29 + many) m all j)))) in
-      let head_is : head_of m ≡ h = found_here m [] h (section seed ++ section v) 0 7 first refl refl (omega arith) in
-      let seed_is : stretch 11 16 m ≡ seed = found_here m (section h) seed (section v) 9 16 refl refl lawful.1.long (omega arith) in
-      let values_are : stretch 29 many m ≡ v = found_here m (section h ++ section seed) v [] 27 many third front v_long values_few in
-      let round_is : round_in (head_of m) ≡ round = ap round_in head_is ∙ round_back k Offer round lawful.0 in
-      let right : head_fault k Offer (head_of m) ≡ None = ap (head_fault k Offer) head_is ∙ head_right k Offer round in
-      let back : unpacked k.w k.n (stretch 29 many m) ≡ values = ap (unpacked k.w k.n) values_are ∙ numbers_back k.n k.w values lawful.2 in
+      let head_is : contents k Offer 0 m ≡ h = found_here m [] h (section seed ++ section v) 0 7 first refl refl (omega arith) in
+      let seed_is : contents k Offer 1 m ≡ seed = found_here m (section h) seed (section v) 9 16 refl refl lawful.1.long (omega arith) in
+      let values_are : contents k Offer 2 m ≡ v = found_here m (section h ++ section seed) v [] 27 many third front v_long values_few in
+      let round_is : round_in (contents k Offer 0 m) ≡ round = ap round_in head_is ∙ round_back k Offer round lawful.0 in
+      let right : head_fault k Offer (contents k Offer 0 m) ≡ None = ap (head_fault k Offer) head_is ∙ head_right k Offer round in
+      let back : unpacked k.w k.n (contents k Offer 2 m) ≡ values = ap (unpacked k.w k.n) values_are ∙ numbers_back k.n k.w values lawful.2 in
       (λ j. unless (option_or (shape j) (option_or (right j) None)) (offer (round_is j) (seed_is j) (back j)))
 
   answer_back : (round : ℕ) (values signals : List ℕ) → HasLawfulParts k (answer round values signals) → reading k Answer (encoded k (answer round values signals)) ≡ Ok (answer round values signals)
@@ -89,15 +88,14 @@ module _ (k : Numbers) (range : InRange k) where
       (option_or (found m (section h) v (section s) 9 many refl refl v_long values_few j)
       (option_or (found m (section h ++ section v) s [] (11 + many) few third front s_long signals_few j)
       (ends (11 + many + 2 + few) m (all ∙ omega arith) j)))) in
-      let head_is : head_of m ≡ h = found_here m [] h (section v ++ section s) 0 7 first refl refl (omega arith) in
-      let values_are : stretch 11 many m ≡ v = found_here m (section h) v (section s) 9 many refl refl v_long values_few in
-      let begins : signals_at k ≡ 11 + many + 2 = omega arith in
-      let signals_are : stretch (signals_at k) few m ≡ s = ap (λ at. stretch at few m) begins ∙ found_here m (section h ++ section v) s [] (11 + many) few third front s_long signals_few in
-      let round_is : round_in (head_of m) ≡ round = ap round_in head_is ∙ round_back k Answer round lawful.0 in
-      let right : head_fault k Answer (head_of m) ≡ None = ap (head_fault k Answer) head_is ∙ head_right k Answer round in
-      let spare : spare_fault k Answer m ≡ None = ap (spare_bit_fault k.n k.signal_width (signals_at k) few) signals_are ∙ no_spare_bits k.n k.signal_width signals lawful.2 (signals_at k) few in
-      let values_back : unpacked k.w k.n (stretch 11 many m) ≡ values = ap (unpacked k.w k.n) values_are ∙ numbers_back k.n k.w values lawful.1 in
-      let signals_back : unpacked k.signal_width k.n (stretch (signals_at k) few m) ≡ signals = ap (unpacked k.signal_width k.n) signals_are ∙ numbers_back k.n k.signal_width signals lawful.2 in
+      let head_is : contents k Answer 0 m ≡ h = found_here m [] h (section v ++ section s) 0 7 first refl refl (omega arith) in
+      let values_are : contents k Answer 1 m ≡ v = found_here m (section h) v (section s) 9 many refl refl v_long values_few in
+      let signals_are : contents k Answer 2 m ≡ s = found_here m (section h ++ section v) s [] (11 + many) few third front s_long signals_few in
+      let round_is : round_in (contents k Answer 0 m) ≡ round = ap round_in head_is ∙ round_back k Answer round lawful.0 in
+      let right : head_fault k Answer (contents k Answer 0 m) ≡ None = ap (head_fault k Answer) head_is ∙ head_right k Answer round in
+      let spare : spare_fault k Answer m ≡ None = ap (spare_bit_fault k.n k.signal_width (offset k Answer 2) few) signals_are ∙ no_spare_bits k.n k.signal_width signals lawful.2 (offset k Answer 2) few in
+      let values_back : unpacked k.w k.n (contents k Answer 1 m) ≡ values = ap (unpacked k.w k.n) values_are ∙ numbers_back k.n k.w values lawful.1 in
+      let signals_back : unpacked k.signal_width k.n (contents k Answer 2 m) ≡ signals = ap (unpacked k.signal_width k.n) signals_are ∙ numbers_back k.n k.signal_width signals lawful.2 in
       (λ j. unless (option_or (shape j) (option_or (right j) (spare j))) (answer (round_is j) (values_back j) (signals_back j)))
 
   confirmation_back : (round : ℕ) → IsRound round → reading k Confirmation (encoded k (confirmation round)) ≡ Ok (confirmation round)
@@ -107,9 +105,9 @@ module _ (k : Numbers) (range : InRange k) where
       let only : m ≡ [] ++ section h ++ [] = sym (append-nil m) in
       let shape : shape_fault 0 (layout k Confirmation) m ≡ None =
       (λ j. option_or (found m [] h [] 0 7 only refl refl (omega arith) j) (ends 9 m refl j)) in
-      let head_is : head_of m ≡ h = found_here m [] h [] 0 7 only refl refl (omega arith) in
-      let round_is : round_in (head_of m) ≡ round = ap round_in head_is ∙ round_back k Confirmation round is in
-      let right : head_fault k Confirmation (head_of m) ≡ None = ap (head_fault k Confirmation) head_is ∙ head_right k Confirmation round in
+      let head_is : contents k Confirmation 0 m ≡ h = found_here m [] h [] 0 7 only refl refl (omega arith) in
+      let round_is : round_in (contents k Confirmation 0 m) ≡ round = ap round_in head_is ∙ round_back k Confirmation round is in
+      let right : head_fault k Confirmation (contents k Confirmation 0 m) ≡ None = ap (head_fault k Confirmation) head_is ∙ head_right k Confirmation round in
       (λ j. unless (option_or (shape j) (option_or (right j) None)) (confirmation (round_is j)))
 
   pub reads_back : ReadsBack k
