@@ -19,7 +19,8 @@ use profile::Profile;
 
 /// Reads a message as an offer.
 pub fn read_offer<P: Profile>(message: &[u8]) -> Result<OfferSections<'_>, Fault>
-    ensures outcome { told (parts_of_offer P.NUMBERS) result ≡ reading P.NUMBERS Offer message.now }
+    ensures outcome { let k = P.NUMBERS in
+        told (parts_of_offer k) result ≡ reading k Offer message.now }
     ensures means { let k = P.NUMBERS in
         ReadingMeans k Offer message.now (told (parts_of_offer k) result) }
     ensures sections { let sizes = layout P.NUMBERS Offer in
@@ -40,7 +41,8 @@ pub fn read_offer<P: Profile>(message: &[u8]) -> Result<OfferSections<'_>, Fault
 
 /// Reads a message as an answer.
 pub fn read_answer<P: Profile>(message: &[u8]) -> Result<AnswerSections<'_>, Fault>
-    ensures outcome { told (parts_of_answer P.NUMBERS) result ≡ reading P.NUMBERS Answer message.now }
+    ensures outcome { let k = P.NUMBERS in
+        told (parts_of_answer k) result ≡ reading k Answer message.now }
     ensures means { let k = P.NUMBERS in
         ReadingMeans k Answer message.now (told (parts_of_answer k) result) }
     ensures sections { let sizes = layout P.NUMBERS Answer in
@@ -62,7 +64,8 @@ pub fn read_answer<P: Profile>(message: &[u8]) -> Result<AnswerSections<'_>, Fau
 
 /// Reads a message as a confirmation.
 pub fn read_confirmation<P: Profile>(message: &[u8]) -> Result<ConfirmationSections<'_>, Fault>
-    ensures outcome { told parts_of_confirmation result ≡ reading P.NUMBERS Confirmation message.now }
+    ensures outcome { let k = P.NUMBERS in
+        told parts_of_confirmation result ≡ reading k Confirmation message.now }
     ensures means { let k = P.NUMBERS in
         ReadingMeans k Confirmation message.now (told parts_of_confirmation result) }
     ensures sections { let sizes = layout P.NUMBERS Confirmation in
@@ -132,12 +135,13 @@ fn read_head<P: Profile>(kind: Kind, head: &[u8]) -> Result<u32, Fault>
     Ok(u32::from_le_bytes([*r0, *r1, *r2, *r3]))
 }
 
-/// That no bit is set after those of n signals, which begin at an offset: the last byte may have some.
+/// That no bit is set after those of n signals, which begin at an offset: the last byte may have
+/// some.
 fn check_spare_bits<P: Profile>(offset: usize, signals: &[u8]) -> Result<(), Fault>
     requires long { length signals.now ≡ signals_length P.NUMBERS }
     requires inside { offset + length signals.now < 2 ^ 64 }
-    ensures { let k = P.NUMBERS in
-        result_err result ≡ spare_bit_fault k.n k.signal_width offset (signals_length k) signals.now }
+    ensures { let k = P.NUMBERS in let many = signals_length k in
+        result_err result ≡ spare_bit_fault k.n k.signal_width offset many signals.now }
 {
     let last = signals.len() - 1;
     let used = P::NUMBERS.n * P::NUMBERS.signal_width as usize - 8 * last;
