@@ -64,11 +64,9 @@ pub record IsStretch (message : Bor (List ℕ)) (section : Section) (at many : �
   pub same_memory : section.bytes.ref_ptr.0 ≡ message.ref_ptr.0
   pub place_in_memory : section.bytes.ref_ptr.1 ≡ message.ref_ptr.1 + at
 
--- sections handed out are the stretches of the message that a row of these sizes has from an offset on
-abbrev pub AreSections : (message : Bor (List ℕ)) (at : ℕ) (sizes : List ℕ) → List Section → Type 0
-AreSections message at [] [] = Unit {0}
-AreSections message at [] (section ∷ sections) = ⊥
-AreSections message at (many ∷ rest) [] = ⊥
-AreSections message at (many ∷ rest) (section ∷ sections) =
-    IsStretch message section (at + COUNT_LENGTH) many
-    × AreSections message (at + COUNT_LENGTH + many) rest sections
+-- sections handed out are those of a message of a kind, from the section of an index on to the last
+abbrev pub AreSections : Numbers → Kind → (message : Bor (List ℕ)) (i : ℕ) → List Section → Type 0
+AreSections k kind message i [] = i ≡ length (layout k kind)
+AreSections k kind message i (section ∷ sections) =
+    IsStretch message section (offset k kind i) (slice_index (layout k kind) i)
+    × AreSections k kind message (suc i) sections

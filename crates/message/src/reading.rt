@@ -6,7 +6,7 @@ ghost use Rattle.ring.specs.Faults.{told};
 ghost use Rattle.message.specs.Reading.{head_fault, reading, round_in, spare_bit_fault};
 ghost use Rattle.message.specs.Reading.{parts_of_answer, parts_of_confirmation, parts_of_offer};
 ghost use Rattle.message.specs.ReadingLaws.{ReadingMeans};
-ghost use Rattle.message.specs.Shapes.{AreSections, IsStretch, layout, section_fault, shape_fault};
+ghost use Rattle.message.specs.Shapes.{AreSections, IsStretch, section_fault, shape_fault};
 ghost use Rattle.message.specs.declared.kind.Kind.TheVariants.{Offer, Answer, Confirmation};
 ghost use Rattle.message.specs.Lengths.{signals_length};
 
@@ -23,8 +23,8 @@ pub fn read_offer<P: Profile>(message: &[u8]) -> Result<OfferSections<'_>, Fault
         told (parts_of_offer k) result ≡ reading k Offer message.now }
     ensures means { let k = P.NUMBERS in
         ReadingMeans k Offer message.now (told (parts_of_offer k) result) }
-    ensures sections { let sizes = layout P.NUMBERS Offer in
-        IfOk result (λ o. AreSections message.entry 0 sizes (o.head ∷ o.seed ∷ o.values ∷ [])) }
+    ensures sections { let Are = AreSections P.NUMBERS Offer message.entry 0 in
+        IfOk result (λ o. Are (o.head ∷ o.seed ∷ o.values ∷ [])) }
 {
     let (head, at) = read_section(message, 0, HEAD_LENGTH)?;
     let (seed, at) = read_section(message, at, SEED_LENGTH)?;
@@ -45,8 +45,8 @@ pub fn read_answer<P: Profile>(message: &[u8]) -> Result<AnswerSections<'_>, Fau
         told (parts_of_answer k) result ≡ reading k Answer message.now }
     ensures means { let k = P.NUMBERS in
         ReadingMeans k Answer message.now (told (parts_of_answer k) result) }
-    ensures sections { let sizes = layout P.NUMBERS Answer in
-        IfOk result (λ a. AreSections message.entry 0 sizes (a.head ∷ a.values ∷ a.signals ∷ [])) }
+    ensures sections { let Are = AreSections P.NUMBERS Answer message.entry 0 in
+        IfOk result (λ a. Are (a.head ∷ a.values ∷ a.signals ∷ [])) }
 {
     let (head, at) = read_section(message, 0, HEAD_LENGTH)?;
     let (values, at) = read_section(message, at, values_length::<P>())?;
@@ -68,8 +68,8 @@ pub fn read_confirmation<P: Profile>(message: &[u8]) -> Result<ConfirmationSecti
         told parts_of_confirmation result ≡ reading k Confirmation message.now }
     ensures means { let k = P.NUMBERS in
         ReadingMeans k Confirmation message.now (told parts_of_confirmation result) }
-    ensures sections { let sizes = layout P.NUMBERS Confirmation in
-        IfOk result (λ c. AreSections message.entry 0 sizes (c.head ∷ [])) }
+    ensures sections { let Are = AreSections P.NUMBERS Confirmation message.entry 0 in
+        IfOk result (λ c. Are (c.head ∷ [])) }
 {
     let (head, at) = read_section(message, 0, HEAD_LENGTH)?;
     check_end(message, at)?;
