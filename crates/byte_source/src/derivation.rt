@@ -17,8 +17,8 @@ use ring::{Fault, place};
 const LARGEST_DEGREE: usize = 1024;
 
 /// Writes the element of the seed: its n coefficients are the first numbers below q that the
-/// seed's stream gives. Refuses an output of another length with fault 1, before the source begins,
-/// and a stream that gives too few with fault 5.
+/// seed's stream gives. Refuses an output of another length with fault 1, before the source
+/// begins, and a stream that gives too few with fault 5.
 #[tactic(auto, using(crate::proofs::Laws::outcome_means))]
 pub fn derive<P: Profile, S: ByteSource>(
     source: &mut S,
