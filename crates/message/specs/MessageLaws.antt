@@ -41,8 +41,8 @@ TellsKindProfileAndRound =
     (k l : Numbers) (m o : Message) → IsRound (round_of m) → IsRound (round_of o) → encoded k m ≡ encoded l o
     → Alike k l m o
 
--- the spare bits of n numbers of w bits in bytes at an offset: none is set where there is no fault, and else the
--- fault is at the byte of each that is set
+-- the spare bits of n numbers of w bits in bytes at an offset: none is set where there is no fault, and else
+-- the fault is at the byte of each that is set
 pub record TellsSpareBits (n w at : ℕ) (bytes : List ℕ) : Type 0 where
   pub none_is_set : spare_bit_fault n w at (packed_length n w) bytes ≡ None → SpareClear w n bytes
   pub none_is_refused : SpareClear w n bytes → spare_bit_fault n w at (packed_length n w) bytes ≡ None

@@ -28,7 +28,9 @@ round_told k kind message = round_in (contents k kind 0 message)
 
 abbrev pub parts : Numbers → Kind → List ℕ → Message
 parts k Offer message =
-    offer (round_told k Offer message) (contents k Offer 1 message) (unpacked k.w k.n (contents k Offer 2 message))
+    offer (round_told k Offer message)
+    (contents k Offer 1 message)
+    (unpacked k.w k.n (contents k Offer 2 message))
 parts k Answer message =
     answer (round_told k Answer message)
     (unpacked k.w k.n (contents k Answer 1 message))
@@ -47,8 +49,8 @@ head_fault k kind head =
     (option_or (byte_fault 1 k.numbers_byte head)
     (byte_fault 2 k.reconciler_byte head))
 
--- that n numbers of w bits have no bits after them in bytes that begin at an offset: what is after them is in
--- the last byte
+-- that n numbers of w bits have no bits after them in bytes that begin at an offset: what is after them is
+-- in the last byte
 abbrev pub spare_bit_fault : (n w at many : ℕ) → List ℕ → Option Fault
 spare_bit_fault n w at many bytes =
     if nat_lt (number 8 bytes) (2 ^ (n * w)) then None else Some (SpareBit (at + many - 1))

@@ -37,8 +37,8 @@ pub record HasCount (at many : ℕ) (message : List ℕ) : Type 0 where
   pub there : at + COUNT_LENGTH ≤ length message
   pub count : number 8 (stretch at COUNT_LENGTH message) ≡ many
 
--- the places at which a message is not a row of sections that begins at an offset: a count that is missing or
--- wrong, the start of contents that are cut short, the first byte after the last section
+-- the places at which a message is not a row of sections that begins at an offset: a count that is missing
+-- or wrong, the start of contents that are cut short, the first byte after the last section
 abbrev pub ShapeIsWrongAt : (at : ℕ) → List ℕ → List ℕ → ℕ → Type 0
 ShapeIsWrongAt at [] message place = (place ≡ at) × (at < length message)
 ShapeIsWrongAt at (many ∷ rest) message place =
@@ -81,8 +81,8 @@ SpareBitAt k Answer message place =
     SpareBitIsSetAt k.n k.signal_width (offset k Answer 2) (contents k Answer 2 message) place
 SpareBitAt k Confirmation message place = ⊥
 
--- what each outcome says of the bytes: that they are a message of the kind, and its parts, or where they first
--- are not, by shape, then head, then spare bits
+-- what each outcome says of the bytes: that they are a message of the kind, and its parts, or where they
+-- first are not, by shape, then head, then spare bits
 abbrev pub ReadingMeans : Numbers → Kind → (message : List ℕ) → Result Message Fault → Type 0
 ReadingMeans k kind message (Ok m) =
     Nowhere (WrongShapeAt k kind message)

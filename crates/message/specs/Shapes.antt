@@ -1,5 +1,5 @@
--- The shape of a message: which sections there are, how long they are and where they begin, and where a message
--- is first otherwise.
+-- The shape of a message: which sections there are, how long they are and where they begin, and where a
+-- message is first otherwise.
 use Rattle.std.specs.Prelude.{◌≡◌, ℕ, zero, suc, ◌+◌, ◌≤◌, ◌&&◌, ◌==◌, Bool, nat_le, if◌then◌else◌}
 use Rattle.std.specs.Prelude.{List, [], ◌∷◌, length, slice_index, Some, None, Option}
 use Rattle.std.specs.Borrow.{Bor}
@@ -21,7 +21,8 @@ layout k Offer = HEAD_LENGTH ∷ SEED_LENGTH ∷ values_length k ∷ []
 layout k Answer = HEAD_LENGTH ∷ values_length k ∷ signals_length k ∷ []
 layout k Confirmation = HEAD_LENGTH ∷ []
 
--- where the bytes of section i begin, in a row of sections that begins at an offset: each has its count before it
+-- where the bytes of section i begin, in a row of sections that begins at an offset: each has its count
+-- before it
 abbrev pub offset_in : (at : ℕ) → List ℕ → (i : ℕ) → ℕ
 offset_in at [] i = at
 offset_in at (many ∷ rest) zero = at + COUNT_LENGTH
@@ -36,16 +37,20 @@ contents k kind i message = stretch (offset k kind i) (slice_index (layout k kin
 
 -- whether the two bytes from an offset on are there, and are this count
 abbrev pub is_counted : (at many : ℕ) → List ℕ → Bool
-is_counted at many message = nat_le (at + COUNT_LENGTH) (length message) && number 8 (stretch at COUNT_LENGTH message) == many
+is_counted at many message =
+    nat_le (at + COUNT_LENGTH) (length message) && number 8 (stretch at COUNT_LENGTH message) == many
 
--- where the section whose count is at an offset is wrong: at the count, or where the bytes begin if they are cut short
+-- where the section whose count is at an offset is wrong: at the count, or where the bytes begin if they are
+-- cut short
 abbrev pub section_fault : (at many : ℕ) → List ℕ → Option Fault
 section_fault at many message =
+    let start = at + COUNT_LENGTH in
     if is_counted at many message
-    then (if nat_le (at + COUNT_LENGTH + many) (length message) then None else Some (WrongShape (at + COUNT_LENGTH)))
+    then (if nat_le (start + many) (length message) then None else Some (WrongShape start))
     else Some (WrongShape at)
 
--- where a message first differs from a row of sections that begins at an offset: nothing comes after the last section
+-- where a message first differs from a row of sections that begins at an offset: nothing comes after the
+-- last section
 abbrev pub shape_fault : (at : ℕ) → List ℕ → List ℕ → Option Fault
 shape_fault at [] message = if nat_le (length message) at then None else Some (WrongShape at)
 shape_fault at (many ∷ rest) message =
@@ -59,11 +64,9 @@ pub record IsStretch (message : Bor (List ℕ)) (section : Section) (at many : �
   pub same_memory : section.bytes.ref_ptr.0 ≡ message.ref_ptr.0
   pub place_in_memory : section.bytes.ref_ptr.1 ≡ message.ref_ptr.1 + at
 
--- sections handed out are the stretches of the message that a row of so many bytes each has from an offset on
-abbrev pub AreSections : (message : Bor (List ℕ)) (at : ℕ) (sizes : List ℕ) → List Section → Type 0
-AreSections message at [] [] = Unit {0}
-AreSections message at [] (section ∷ sections) = ⊥
-AreSections message at (many ∷ rest) [] = ⊥
-AreSections message at (many ∷ rest) (section ∷ sections) =
-    IsStretch message section (at + COUNT_LENGTH) many
-    × AreSections message (at + COUNT_LENGTH + many) rest sections
+-- sections handed out are those of a message of a kind, from the section of an index on to the last
+abbrev pub AreSections : Numbers → Kind → (message : Bor (List ℕ)) (i : ℕ) → List Section → Type 0
+AreSections k kind message i [] = i ≡ length (layout k kind)
+AreSections k kind message i (section ∷ sections) =
+    IsStretch message section (offset k kind i) (slice_index (layout k kind) i)
+    × AreSections k kind message (suc i) sections

@@ -1,5 +1,5 @@
--- What writing a message from its parts gives, into so much room. Faults are tried in the order that the tests
--- have here.
+-- What writing a message from its parts gives, into so much room. Faults are tried in the order that the
+-- tests have here.
 use Rattle.std.specs.Prelude.{ℕ, ◌+◌, ◌^◌, List, length, ◌==◌, Ok, Result, nat_le}
 use Rattle.ring.specs.Elements.{first_not_below}
 use Rattle.ring.specs.Faults.{checked}
@@ -30,7 +30,8 @@ write_outcome k (answer round values signals) room =
     (check_fit k.n k.w (λ i. i) values
     (check_fit k.n k.signal_width (λ i. k.n + i) signals
     (Ok tt)))))
-write_outcome k (confirmation round) room = checked (room == confirmation_length) (WrongLength OUTPUT) (Ok tt)
+write_outcome k (confirmation round) room =
+    checked (room == confirmation_length) (WrongLength OUTPUT) (Ok tt)
 
 -- how long the messages of a kind are
 abbrev pub message_length : Numbers → Kind → ℕ

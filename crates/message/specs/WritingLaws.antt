@@ -20,7 +20,8 @@ LengthsFit k (confirmation round) room = room ≡ confirmation_length
 -- each rounded value and each signal fits the bits that it is packed in
 abbrev pub NumbersFit : Numbers → Message → Type 0
 NumbersFit k (offer round seed values) = AllBelow (2 ^ k.w) values
-NumbersFit k (answer round values signals) = AllBelow (2 ^ k.w) values × AllBelow (2 ^ k.signal_width) signals
+NumbersFit k (answer round values signals) =
+    AllBelow (2 ^ k.w) values × AllBelow (2 ^ k.signal_width) signals
 NumbersFit k (confirmation round) = Unit {0}
 
 -- place is the first whose length is wrong
@@ -43,8 +44,8 @@ FirstNotFitting k (answer round values signals) place =
     × ((j : ℕ) × (place ≡ k.n + j) × FirstNotBelow (2 ^ k.signal_width) signals j))
 FirstNotFitting k (confirmation round) place = ⊥
 
--- what each outcome says of the parts and of the room: that they fit, or where they first do not, lengths before
--- numbers
+-- what each outcome says of the parts and of the room: that they fit, or where they first do not, lengths
+-- before numbers
 abbrev pub WriteMeans : Numbers → Message → (room : ℕ) → Result (Unit {0}) Fault → Type 0
 WriteMeans k m room (Ok _) = LengthsFit k m room × NumbersFit k m
 WriteMeans k m room (Err (WrongLength place)) = FirstWrongLength k m room place
@@ -55,7 +56,8 @@ WriteMeans k m room (Err (SourceSpent place)) = ⊥
 
 -- every message of any profile, into any room
 abbrev pub WritingRefusesTheFirst : Type 0
-WritingRefusesTheFirst = (k : Numbers) (m : Message) (room : ℕ) → WriteMeans k m room (write_outcome k m room)
+WritingRefusesTheFirst =
+    (k : Numbers) (m : Message) (room : ℕ) → WriteMeans k m room (write_outcome k m room)
 
 abbrev pub WritingAcceptsWhatFits : Type 0
 WritingAcceptsWhatFits =

@@ -3,11 +3,12 @@
 ghost use Rattle.std.specs.Prelude.{◌≡◌};
 ghost use Rattle.message.specs.Faults.{layer_of, number_of, place_of};
 
-/// Each case holds the place of the fault, an offset in the message. `layer`, `number` and `place` are
-/// what is reported of it.
+/// Each case holds the place of the fault, an offset in the message. `layer`, `number` and `place`
+/// are what is reported of it.
 #[derive(Clone, Copy, PartialEq, Eq, Debug)]
 pub enum Fault {
-    /// a count that is missing or wrong, contents that are cut short, or bytes after the last section
+    /// a count that is missing or wrong, contents that are cut short, or bytes after the last
+    /// section
     WrongShape(usize),
     /// a byte of the head that is not that of the kind or of the profile
     WrongHead(usize),

@@ -1,4 +1,4 @@
-//! Messages: how an offer, an answer and a confirmation are written from their parts and read back.
+//! Messages: how offers, answers and confirmations are written from their parts and read back.
 
 #![tactic(auto)]
 

@@ -10,7 +10,7 @@ use std::marker::Model;
 pub struct Offer<'a> {
     /// the exchange's number
     pub round: u32,
-    /// what the common element is made from
+    /// what both sides expand to the common element
     pub seed: &'a [u8; SEED_LENGTH],
     /// n rounded values
     pub values: &'a [u32],

@@ -6,7 +6,7 @@ ghost use Rattle.ring.specs.Faults.{told};
 ghost use Rattle.message.specs.Reading.{head_fault, reading, round_in, spare_bit_fault};
 ghost use Rattle.message.specs.Reading.{parts_of_answer, parts_of_confirmation, parts_of_offer};
 ghost use Rattle.message.specs.ReadingLaws.{ReadingMeans};
-ghost use Rattle.message.specs.Shapes.{AreSections, IsStretch, layout, section_fault, shape_fault};
+ghost use Rattle.message.specs.Shapes.{AreSections, IsStretch, section_fault, shape_fault};
 ghost use Rattle.message.specs.declared.kind.Kind.TheVariants.{Offer, Answer, Confirmation};
 ghost use Rattle.message.specs.Lengths.{signals_length};
 
@@ -19,11 +19,12 @@ use profile::Profile;
 
 /// Reads a message as an offer.
 pub fn read_offer<P: Profile>(message: &[u8]) -> Result<OfferSections<'_>, Fault>
-    ensures outcome { told (parts_of_offer P.NUMBERS) result ≡ reading P.NUMBERS Offer message.now }
+    ensures outcome { let k = P.NUMBERS in
+        told (parts_of_offer k) result ≡ reading k Offer message.now }
     ensures means { let k = P.NUMBERS in
         ReadingMeans k Offer message.now (told (parts_of_offer k) result) }
-    ensures sections { let sizes = layout P.NUMBERS Offer in
-        IfOk result (λ o. AreSections message.entry 0 sizes (o.head ∷ o.seed ∷ o.values ∷ [])) }
+    ensures sections { let Are = AreSections P.NUMBERS Offer message.entry 0 in
+        IfOk result (λ o. Are (o.head ∷ o.seed ∷ o.values ∷ [])) }
 {
     let (head, at) = read_section(message, 0, HEAD_LENGTH)?;
     let (seed, at) = read_section(message, at, SEED_LENGTH)?;
@@ -40,11 +41,12 @@ pub fn read_offer<P: Profile>(message: &[u8]) -> Result<OfferSections<'_>, Fault
 
 /// Reads a message as an answer.
 pub fn read_answer<P: Profile>(message: &[u8]) -> Result<AnswerSections<'_>, Fault>
-    ensures outcome { told (parts_of_answer P.NUMBERS) result ≡ reading P.NUMBERS Answer message.now }
+    ensures outcome { let k = P.NUMBERS in
+        told (parts_of_answer k) result ≡ reading k Answer message.now }
     ensures means { let k = P.NUMBERS in
         ReadingMeans k Answer message.now (told (parts_of_answer k) result) }
-    ensures sections { let sizes = layout P.NUMBERS Answer in
-        IfOk result (λ a. AreSections message.entry 0 sizes (a.head ∷ a.values ∷ a.signals ∷ [])) }
+    ensures sections { let Are = AreSections P.NUMBERS Answer message.entry 0 in
+        IfOk result (λ a. Are (a.head ∷ a.values ∷ a.signals ∷ [])) }
 {
     let (head, at) = read_section(message, 0, HEAD_LENGTH)?;
     let (values, at) = read_section(message, at, values_length::<P>())?;
@@ -62,11 +64,12 @@ pub fn read_answer<P: Profile>(message: &[u8]) -> Result<AnswerSections<'_>, Fau
 
 /// Reads a message as a confirmation.
 pub fn read_confirmation<P: Profile>(message: &[u8]) -> Result<ConfirmationSections<'_>, Fault>
-    ensures outcome { told parts_of_confirmation result ≡ reading P.NUMBERS Confirmation message.now }
+    ensures outcome { let k = P.NUMBERS in
+        told parts_of_confirmation result ≡ reading k Confirmation message.now }
     ensures means { let k = P.NUMBERS in
         ReadingMeans k Confirmation message.now (told parts_of_confirmation result) }
-    ensures sections { let sizes = layout P.NUMBERS Confirmation in
-        IfOk result (λ c. AreSections message.entry 0 sizes (c.head ∷ [])) }
+    ensures sections { let Are = AreSections P.NUMBERS Confirmation message.entry 0 in
+        IfOk result (λ c. Are (c.head ∷ [])) }
 {
     let (head, at) = read_section(message, 0, HEAD_LENGTH)?;
     check_end(message, at)?;
@@ -132,12 +135,13 @@ fn read_head<P: Profile>(kind: Kind, head: &[u8]) -> Result<u32, Fault>
     Ok(u32::from_le_bytes([*r0, *r1, *r2, *r3]))
 }
 
-/// That no bit is set after those of n signals, which begin at an offset: the last byte may have some.
+/// That no bit is set after those of n signals, which begin at an offset: the last byte may have
+/// some.
 fn check_spare_bits<P: Profile>(offset: usize, signals: &[u8]) -> Result<(), Fault>
     requires long { length signals.now ≡ signals_length P.NUMBERS }
     requires inside { offset + length signals.now < 2 ^ 64 }
-    ensures { let k = P.NUMBERS in
-        result_err result ≡ spare_bit_fault k.n k.signal_width offset (signals_length k) signals.now }
+    ensures { let k = P.NUMBERS in let many = signals_length k in
+        result_err result ≡ spare_bit_fault k.n k.signal_width offset many signals.now }
 {
     let last = signals.len() - 1;
     let used = P::NUMBERS.n * P::NUMBERS.signal_width as usize - 8 * last;
