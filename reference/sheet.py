@@ -51,8 +51,8 @@ def sheet(numbers, name):
     for coin in range(COINS):
         counts = {}
         for x in range(q):
-            answer = reconcile(name, x, coin, q)
-            counts[answer] = counts.get(answer, 0) + 1
+            outcome = reconcile(name, x, coin, q)
+            counts[outcome] = counts.get(outcome, 0) + 1
         for signal in range(2**bits):
             print(f"  coin {coin} signal {signal}     key 0: {counts.get((signal, 0), 0)}, key 1: {counts.get((signal, 1), 0)}")
     print()

@@ -6,10 +6,10 @@
 //! [`ring`], [`shake`], [`derive`](mod@derive), [`profile`] and [`message`] hold the implementation. [`plain`] puts it behind the
 //! functions that the proved library exports, and [`proved`] calls those of the library itself. [`table`] writes vectors.
 
-pub mod answer;
 pub mod derive;
 pub mod fault;
 pub mod message;
+pub mod outcome;
 pub mod plain;
 pub mod profile;
 #[cfg(feature = "proved")]

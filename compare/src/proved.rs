@@ -2,7 +2,7 @@
 //!
 //! Nothing checks these declarations against the library: they say what `libexports_c.a` is expected to have.
 
-use crate::answer::Answer;
+use crate::outcome::Outcome;
 
 unsafe extern "C" {
     fn exported_multiply(
@@ -91,9 +91,9 @@ pub fn multiply(
     right: &[u32],
     scratch: &mut [u32],
     output: &mut [u32],
-) -> Answer {
+) -> Outcome {
     // SAFETY: each pointer goes with the length of its own slice, and the two that are written to are borrowed alone.
-    Answer(unsafe {
+    Outcome(unsafe {
         exported_multiply(
             row_sum,
             n,
@@ -115,46 +115,46 @@ pub fn shake128(message: &[u8], output: &mut [u8]) {
     unsafe { exported_shake128(message.as_ptr(), message.len(), output.as_mut_ptr(), output.len()) }
 }
 
-pub fn derive_tape(profile: u8, tape: &[u8], output: &mut [u32]) -> Answer {
+pub fn derive_tape(profile: u8, tape: &[u8], output: &mut [u32]) -> Outcome {
     // SAFETY: as in `multiply`.
-    Answer(unsafe { exported_derive_tape(profile, tape.as_ptr(), tape.len(), output.as_mut_ptr(), output.len()) })
+    Outcome(unsafe { exported_derive_tape(profile, tape.as_ptr(), tape.len(), output.as_mut_ptr(), output.len()) })
 }
 
-pub fn derive_shake(profile: u8, seed: &[u8], output: &mut [u32]) -> Answer {
+pub fn derive_shake(profile: u8, seed: &[u8], output: &mut [u32]) -> Outcome {
     // SAFETY: as in `multiply`.
-    Answer(unsafe { exported_derive_shake(profile, seed.as_ptr(), seed.len(), output.as_mut_ptr(), output.len()) })
+    Outcome(unsafe { exported_derive_shake(profile, seed.as_ptr(), seed.len(), output.as_mut_ptr(), output.len()) })
 }
 
-pub fn round(profile: u8, x: u32) -> Answer {
-    Answer(exported_round(profile, x))
+pub fn round(profile: u8, x: u32) -> Outcome {
+    Outcome(exported_round(profile, x))
 }
 
-pub fn recover(profile: u8, y: u32) -> Answer {
-    Answer(exported_recover(profile, y))
+pub fn recover(profile: u8, y: u32) -> Outcome {
+    Outcome(exported_recover(profile, y))
 }
 
 /// The value is the key bit and, times 2, the signal.
-pub fn reconcile(profile: u8, x: u32, coin: u8) -> Answer {
-    Answer(exported_reconcile(profile, x, coin))
+pub fn reconcile(profile: u8, x: u32, coin: u8) -> Outcome {
+    Outcome(exported_reconcile(profile, x, coin))
 }
 
-pub fn read(profile: u8, y: u32, signal: u8) -> Answer {
-    Answer(exported_read(profile, y, signal))
+pub fn read(profile: u8, y: u32, signal: u8) -> Outcome {
+    Outcome(exported_read(profile, y, signal))
 }
 
-pub fn pack(width: u32, numbers: &[u32], output: &mut [u8]) -> Answer {
+pub fn pack(width: u32, numbers: &[u32], output: &mut [u8]) -> Outcome {
     // SAFETY: as in `multiply`.
-    Answer(unsafe { exported_pack(width, numbers.as_ptr(), numbers.len(), output.as_mut_ptr(), output.len()) })
+    Outcome(unsafe { exported_pack(width, numbers.as_ptr(), numbers.len(), output.as_mut_ptr(), output.len()) })
 }
 
-pub fn unpack(width: u32, bytes: &[u8], numbers: &mut [u32]) -> Answer {
+pub fn unpack(width: u32, bytes: &[u8], numbers: &mut [u32]) -> Outcome {
     // SAFETY: as in `multiply`.
-    Answer(unsafe { exported_unpack(width, bytes.as_ptr(), bytes.len(), numbers.as_mut_ptr(), numbers.len()) })
+    Outcome(unsafe { exported_unpack(width, bytes.as_ptr(), bytes.len(), numbers.as_mut_ptr(), numbers.len()) })
 }
 
-pub fn write_offer(profile: u8, round: u32, seed: &[u8], values: &[u32], output: &mut [u8]) -> Answer {
+pub fn write_offer(profile: u8, round: u32, seed: &[u8], values: &[u32], output: &mut [u8]) -> Outcome {
     // SAFETY: as in `multiply`.
-    Answer(unsafe {
+    Outcome(unsafe {
         exported_write_offer(
             profile,
             round,
@@ -168,9 +168,9 @@ pub fn write_offer(profile: u8, round: u32, seed: &[u8], values: &[u32], output:
     })
 }
 
-pub fn write_answer(profile: u8, round: u32, values: &[u32], signals: &[u32], output: &mut [u8]) -> Answer {
+pub fn write_answer(profile: u8, round: u32, values: &[u32], signals: &[u32], output: &mut [u8]) -> Outcome {
     // SAFETY: as in `multiply`.
-    Answer(unsafe {
+    Outcome(unsafe {
         exported_write_answer(
             profile,
             round,
@@ -184,15 +184,15 @@ pub fn write_answer(profile: u8, round: u32, values: &[u32], signals: &[u32], ou
     })
 }
 
-pub fn write_confirmation(profile: u8, round: u32, output: &mut [u8]) -> Answer {
+pub fn write_confirmation(profile: u8, round: u32, output: &mut [u8]) -> Outcome {
     // SAFETY: as in `multiply`.
-    Answer(unsafe { exported_write_confirmation(profile, round, output.as_mut_ptr(), output.len()) })
+    Outcome(unsafe { exported_write_confirmation(profile, round, output.as_mut_ptr(), output.len()) })
 }
 
 /// Accepted, the value is the round, and the buffers hold the seed and the rounded values.
-pub fn read_offer(profile: u8, message: &[u8], seed: &mut [u8], values: &mut [u32]) -> Answer {
+pub fn read_offer(profile: u8, message: &[u8], seed: &mut [u8], values: &mut [u32]) -> Outcome {
     // SAFETY: as in `multiply`.
-    Answer(unsafe {
+    Outcome(unsafe {
         exported_read_offer(
             profile,
             message.as_ptr(),
@@ -206,9 +206,9 @@ pub fn read_offer(profile: u8, message: &[u8], seed: &mut [u8], values: &mut [u3
 }
 
 /// Accepted, the value is the round, and the buffers hold the rounded values and the signals.
-pub fn read_answer(profile: u8, message: &[u8], values: &mut [u32], signals: &mut [u32]) -> Answer {
+pub fn read_answer(profile: u8, message: &[u8], values: &mut [u32], signals: &mut [u32]) -> Outcome {
     // SAFETY: as in `multiply`.
-    Answer(unsafe {
+    Outcome(unsafe {
         exported_read_answer(
             profile,
             message.as_ptr(),
@@ -222,7 +222,7 @@ pub fn read_answer(profile: u8, message: &[u8], values: &mut [u32], signals: &mu
 }
 
 /// Accepted, the value is the round.
-pub fn read_confirmation(profile: u8, message: &[u8]) -> Answer {
+pub fn read_confirmation(profile: u8, message: &[u8]) -> Outcome {
     // SAFETY: as in `multiply`.
-    Answer(unsafe { exported_read_confirmation(profile, message.as_ptr(), message.len()) })
+    Outcome(unsafe { exported_read_confirmation(profile, message.as_ptr(), message.len()) })
 }

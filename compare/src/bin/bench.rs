@@ -4,9 +4,9 @@ use std::array;
 use std::hint::black_box;
 use std::time::{Duration, Instant};
 
-use compare::answer::Answer;
 use compare::derive::Seed;
 use compare::message::Kind;
+use compare::outcome::Outcome;
 use compare::profile::Profile;
 use compare::random::Random;
 use compare::{plain, proved};
@@ -66,7 +66,7 @@ fn report(name: &str, times: &Times) {
 
 /// Both multipliers, schoolbook first.
 fn multiply(profile: Profile, random: &mut Random) -> (Times, Times) {
-    type Multiply = fn(u8, usize, u32, &[u32], &[u32], &mut [u32], &mut [u32]) -> Answer;
+    type Multiply = fn(u8, usize, u32, &[u32], &[u32], &mut [u32], &mut [u32]) -> Outcome;
     let (n, q) = (profile.n(), profile.q());
     let left = random.numbers(n, q);
     let right = random.numbers(n, q);
@@ -79,8 +79,8 @@ fn multiply(profile: Profile, random: &mut Random) -> (Times, Times) {
         // No more scratch than is needed, since all of it is cleared.
         let scratch = if row_sum == 0 { &mut scratch[..0] } else { &mut scratch[..] };
         let (left, right) = (black_box(&left), black_box(&right));
-        let answer = multiply(row_sum, n, q, left, right, black_box(scratch), black_box(&mut output));
-        assert_eq!(answer, Answer::DONE);
+        let outcome = multiply(row_sum, n, q, left, right, black_box(scratch), black_box(&mut output));
+        assert_eq!(outcome, Outcome::DONE);
     });
     (Times { proved: a, plain: b }, Times { proved: c, plain: d })
 }
@@ -94,20 +94,20 @@ fn shake128(message: &[u8]) -> Times {
 }
 
 fn derive(seed: &Seed) -> Times {
-    type Derive = fn(u8, &[u8], &mut [u32]) -> Answer;
+    type Derive = fn(u8, &[u8], &mut [u32]) -> Outcome;
     let mut output = vec![0; Profile::HOUSE[usize::from(S_DING)].n()];
     let calls: [Derive; 2] = [proved::derive_shake, plain::derive_shake];
     let [proved, plain] = in_turns(calls, |derive| {
-        let answer = derive(S_DING, black_box(seed), black_box(&mut output));
-        assert_eq!(answer, Answer::DONE);
+        let outcome = derive(S_DING, black_box(seed), black_box(&mut output));
+        assert_eq!(outcome, Outcome::DONE);
     });
     Times { proved, plain }
 }
 
 /// Packing and unpacking as many rounded values as a message of S has.
 fn pack(random: &mut Random) -> (Times, Times) {
-    type Pack = fn(u32, &[u32], &mut [u8]) -> Answer;
-    type Unpack = fn(u32, &[u8], &mut [u32]) -> Answer;
+    type Pack = fn(u32, &[u32], &mut [u8]) -> Outcome;
+    type Unpack = fn(u32, &[u8], &mut [u32]) -> Outcome;
     let profile = Profile::HOUSE[usize::from(S_DING)];
     let width = profile.value_width();
     let numbers = random.numbers(profile.n(), profile.p() + 1);
@@ -115,16 +115,16 @@ fn pack(random: &mut Random) -> (Times, Times) {
 
     let calls: [Pack; 2] = [proved::pack, plain::pack];
     let [proved, plain] = in_turns(calls, |pack| {
-        let answer = pack(black_box(width.bits()), black_box(&numbers), black_box(&mut bytes));
-        assert_eq!(answer, Answer::DONE);
+        let outcome = pack(black_box(width.bits()), black_box(&numbers), black_box(&mut bytes));
+        assert_eq!(outcome, Outcome::DONE);
     });
     let packing = Times { proved, plain };
 
     let mut unpacked = vec![0; numbers.len()];
     let calls: [Unpack; 2] = [proved::unpack, plain::unpack];
     let [proved, plain] = in_turns(calls, |unpack| {
-        let answer = unpack(black_box(width.bits()), black_box(&bytes), black_box(&mut unpacked));
-        assert_eq!(answer, Answer::DONE);
+        let outcome = unpack(black_box(width.bits()), black_box(&bytes), black_box(&mut unpacked));
+        assert_eq!(outcome, Outcome::DONE);
     });
     assert_eq!(unpacked, numbers);
     (packing, Times { proved, plain })
@@ -132,8 +132,8 @@ fn pack(random: &mut Random) -> (Times, Times) {
 
 /// Writing an answer from its parts, and reading it, which unpacks the rounded values and the signals.
 fn answer(random: &mut Random) -> (Times, Times) {
-    type Write = fn(u8, u32, &[u32], &[u32], &mut [u8]) -> Answer;
-    type Read = fn(u8, &[u8], &mut [u32], &mut [u32]) -> Answer;
+    type Write = fn(u8, u32, &[u32], &[u32], &mut [u8]) -> Outcome;
+    type Read = fn(u8, &[u8], &mut [u32], &mut [u32]) -> Outcome;
     const ROUND: u32 = 1;
     let profile = Profile::HOUSE[usize::from(S_DING)];
     let values = random.numbers(profile.n(), profile.p() + 1);
@@ -143,8 +143,8 @@ fn answer(random: &mut Random) -> (Times, Times) {
     let calls: [Write; 2] = [proved::write_answer, plain::write_answer];
     let [proved, plain] = in_turns(calls, |write| {
         let (values, signals) = (black_box(&values), black_box(&signals));
-        let answer = write(S_DING, ROUND, values, signals, black_box(&mut message));
-        assert_eq!(answer, Answer::DONE);
+        let outcome = write(S_DING, ROUND, values, signals, black_box(&mut message));
+        assert_eq!(outcome, Outcome::DONE);
     });
     let writing = Times { proved, plain };
 
@@ -153,8 +153,8 @@ fn answer(random: &mut Random) -> (Times, Times) {
     let calls: [Read; 2] = [proved::read_answer, plain::read_answer];
     let [proved, plain] = in_turns(calls, |read| {
         let (values, signals) = (black_box(&mut values_read), black_box(&mut signals_read));
-        let answer = read(S_DING, black_box(&message), values, signals);
-        assert_eq!(answer, Answer(ROUND.into()));
+        let outcome = read(S_DING, black_box(&message), values, signals);
+        assert_eq!(outcome, Outcome(ROUND.into()));
     });
     assert_eq!((values_read, signals_read), (values, signals));
     (writing, Times { proved, plain })

@@ -1,6 +1,6 @@
 //! Derived elements.
 
-use compare::answer::Answer;
+use compare::outcome::Outcome;
 use compare::profile::Profile;
 use compare::random::Random;
 use compare::{plain, proved};
@@ -18,14 +18,14 @@ enum Bytes<'a> {
 }
 
 /// Derives on both sides, with junk in the output before, and compares what is left there.
-fn compare_element(profile: u8, bytes: Bytes, length: usize) -> Result<Answer, Difference> {
+fn compare_element(profile: u8, bytes: Bytes, length: usize) -> Result<Outcome, Difference> {
     let describe = || match bytes {
         Bytes::Tape(tape) => format!("derive, profile {profile}, output {length} long, tape {}", brief(tape)),
         Bytes::ShakeOf(seed) => format!("derive, profile {profile}, output {length} long, seed {}", brief(seed)),
     };
     let mut output = Walled::new(length, JUNK);
     let mut plain_output = vec![JUNK; length];
-    let (answer, expected) = match bytes {
+    let (outcome, expected) = match bytes {
         Bytes::Tape(tape) => {
             (proved::derive_tape(profile, tape, output.buffer()), plain::derive_tape(profile, tape, &mut plain_output))
         }
@@ -34,10 +34,10 @@ fn compare_element(profile: u8, bytes: Bytes, length: usize) -> Result<Answer, D
             plain::derive_shake(profile, seed, &mut plain_output),
         ),
     };
-    same(answer, expected, describe)?;
+    same(outcome, expected, describe)?;
     same_list(output.buffer(), &plain_output, describe)?;
     holds(output.walls_stand(), "wrote past an end of the output", describe)?;
-    Ok(answer)
+    Ok(outcome)
 }
 
 /// Tapes cut at every length, from nothing to past the last byte that is needed.
@@ -53,11 +53,11 @@ pub fn tapes(random: &mut Random) -> Result<u64, Difference> {
                 cases += 1;
             }
             let whole = compare_element(index, Bytes::Tape(&tape), n)?;
-            assert_eq!(whole, Answer::DONE, "{}: the tape is long enough", profile.name());
+            assert_eq!(whole, Outcome::DONE, "{}: the tape is long enough", profile.name());
         }
-        for (byte, answer) in [(0, Answer::DONE), (0xff, Answer(5 << 56))] {
+        for (byte, outcome) in [(0, Outcome::DONE), (0xff, Outcome(5 << 56))] {
             let whole = compare_element(index, Bytes::Tape(&vec![byte; length]), n)?;
-            assert_eq!(whole, answer, "{}: {byte} all along the tape", profile.name());
+            assert_eq!(whole, outcome, "{}: {byte} all along the tape", profile.name());
             cases += 1;
         }
     }

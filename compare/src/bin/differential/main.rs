@@ -23,7 +23,7 @@ use compare::table;
 /// What the two did differently, and on which input.
 struct Difference(String);
 
-/// A group of cases, of which the answer is how many there were.
+/// A group of cases, which gives how many there were.
 type Group = fn(&mut Random) -> Result<u64, Difference>;
 
 const GROUPS: [(&str, Group); 31] = [
@@ -88,7 +88,7 @@ fn main() -> ExitCode {
     }
 }
 
-/// Compares two answers to one call.
+/// Compares two outcomes of one call.
 fn same<T: PartialEq + Display>(proved: T, plain: T, call: impl FnOnce() -> String) -> Result<(), Difference> {
     if proved == plain {
         return Ok(());

@@ -1,7 +1,7 @@
 //! Writing and reading messages.
 
-use compare::answer::Answer;
 use compare::message::Kind;
+use compare::outcome::Outcome;
 use compare::profile::Profile;
 use compare::random::Random;
 use compare::{plain, proved};
@@ -44,7 +44,7 @@ impl Parts {
 }
 
 /// Writes on both sides, with junk in the output before, and compares what is left there.
-fn compare_write(kind: Kind, profile: u8, parts: &Parts, length: usize) -> Result<(Answer, Vec<u8>), Difference> {
+fn compare_write(kind: Kind, profile: u8, parts: &Parts, length: usize) -> Result<(Outcome, Vec<u8>), Difference> {
     let Parts { round, seed, values, signals } = parts;
     let round = *round;
     let describe = || {
@@ -55,7 +55,7 @@ fn compare_write(kind: Kind, profile: u8, parts: &Parts, length: usize) -> Resul
     let mut output = Walled::new(length, JUNK_BYTE);
     let mut plain_output = vec![JUNK_BYTE; length];
     let (buffer, plain_buffer) = (output.buffer(), &mut plain_output);
-    let (answer, expected) = match kind {
+    let (outcome, expected) = match kind {
         Kind::Offer => (
             proved::write_offer(profile, round, seed, values, buffer),
             plain::write_offer(profile, round, seed, values, plain_buffer),
@@ -69,11 +69,11 @@ fn compare_write(kind: Kind, profile: u8, parts: &Parts, length: usize) -> Resul
             plain::write_confirmation(profile, round, plain_buffer),
         ),
     };
-    same(answer, expected, describe)?;
+    same(outcome, expected, describe)?;
     same_list(output.buffer(), &plain_output, describe)?;
     holds(output.walls_stand(), "wrote past an end of the output", describe)?;
     holds(*parts == before, "wrote to a list", describe)?;
-    Ok((answer, plain_output))
+    Ok((outcome, plain_output))
 }
 
 /// How long the buffers are that a message is read into.
@@ -92,7 +92,7 @@ impl Lengths {
 
 /// What reading left in the buffers.
 struct Left {
-    answer: Answer,
+    outcome: Outcome,
     seed: Vec<u8>,
     values: Vec<u32>,
     signals: Vec<u32>,
@@ -110,14 +110,14 @@ fn compare_read_into(kind: Kind, profile: u8, message: &[u8], lengths: Lengths) 
     let mut seed = Walled::new(lengths.seed, JUNK_BYTE);
     let mut values = Walled::new(lengths.values, JUNK);
     let mut signals = Walled::new(lengths.signals, JUNK);
-    let answer = match kind {
+    let outcome = match kind {
         Kind::Offer => proved::read_offer(profile, message, seed.buffer(), values.buffer()),
         Kind::Answer => proved::read_answer(profile, message, values.buffer(), signals.buffer()),
         Kind::Confirmation => proved::read_confirmation(profile, message),
     };
 
     let mut left = Left {
-        answer,
+        outcome,
         seed: vec![JUNK_BYTE; lengths.seed],
         values: vec![JUNK; lengths.values],
         signals: vec![JUNK; lengths.signals],
@@ -128,7 +128,7 @@ fn compare_read_into(kind: Kind, profile: u8, message: &[u8], lengths: Lengths) 
         Kind::Confirmation => plain::read_confirmation(profile, message),
     };
 
-    same(answer, expected, describe)?;
+    same(outcome, expected, describe)?;
     same_list(seed.buffer(), &left.seed, || format!("{}\nin the seed:", describe()))?;
     same_list(values.buffer(), &left.values, || format!("{}\nin the values:", describe()))?;
     same_list(signals.buffer(), &left.signals, || format!("{}\nin the signals:", describe()))?;
@@ -189,10 +189,10 @@ pub fn round_trips(random: &mut Random) -> Result<u64, Difference> {
         }
         all.extend((0..1000).map(|_| Parts::random(profile, random)));
         for parts in all {
-            let (answer, message) = compare_write(kind, index, &parts, kind.length(profile))?;
-            assert_eq!(answer, Answer::DONE, "{kind:?} of {}: {parts:?}", profile.name());
+            let (outcome, message) = compare_write(kind, index, &parts, kind.length(profile))?;
+            assert_eq!(outcome, Outcome::DONE, "{kind:?} of {}: {parts:?}", profile.name());
             let left = compare_read(kind, index, &message)?;
-            assert_eq!(left.answer, Answer(parts.round.into()), "{kind:?} of {}: {parts:?}", profile.name());
+            assert_eq!(left.outcome, Outcome(parts.round.into()), "{kind:?} of {}: {parts:?}", profile.name());
             match kind {
                 Kind::Offer => assert_eq!((left.seed, left.values), (parts.seed, parts.values)),
                 Kind::Answer => assert_eq!((left.values, left.signals), (parts.values, parts.signals)),
@@ -256,9 +256,9 @@ pub fn write_every_place(random: &mut Random) -> Result<u64, Difference> {
             put(&mut parts, place, beyond(place, random));
             let (offer, answer) = (Kind::Offer.length(profile), Kind::Answer.length(profile));
             // To an offer and to a confirmation the signals do not matter.
-            let expected = if place < n { Answer(2 << 56 | place as u64) } else { Answer::DONE };
+            let expected = if place < n { Outcome(2 << 56 | place as u64) } else { Outcome::DONE };
             assert_eq!(compare_write(Kind::Offer, index, &parts, offer)?.0, expected);
-            let expected = Answer(2 << 56 | place as u64);
+            let expected = Outcome(2 << 56 | place as u64);
             assert_eq!(compare_write(Kind::Answer, index, &parts, answer)?.0, expected);
             cases += 2;
 
@@ -289,8 +289,8 @@ pub fn cuts(random: &mut Random) -> Result<u64, Difference> {
             for more in [1, 2, 3, 9, message.len(), 65536] {
                 for bytes in [vec![0; more], random.bytes(more)] {
                     let longer = [message.as_slice(), &bytes].concat();
-                    let answer = compare_read(kind, index, &longer)?.answer;
-                    assert_eq!(answer, Answer(7 << 56 | message.len() as u64), "{more} more bytes");
+                    let outcome = compare_read(kind, index, &longer)?.outcome;
+                    assert_eq!(outcome, Outcome(7 << 56 | message.len() as u64), "{more} more bytes");
                     cases += 1;
                 }
             }

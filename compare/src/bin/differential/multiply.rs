@@ -1,6 +1,6 @@
 //! Both multipliers.
 
-use compare::answer::Answer;
+use compare::outcome::Outcome;
 use compare::random::Random;
 use compare::ring::{Karatsuba, Multiplier, Ring};
 use compare::{plain, proved};
@@ -50,7 +50,7 @@ impl Call<'_> {
     }
 
     /// Makes the call on both sides, with junk in the buffers before, and compares all that it leaves.
-    fn compare(&self) -> Result<Answer, Difference> {
+    fn compare(&self) -> Result<Outcome, Difference> {
         const JUNK: u32 = 0xdead_beef;
         let Call { row_sum, n, q, left, right, .. } = *self;
         let describe = || self.describe();
@@ -58,17 +58,17 @@ impl Call<'_> {
         let mut scratch = Walled::new(self.scratch, JUNK);
         let mut output = Walled::new(self.output, JUNK);
         let (left_before, right_before) = (left.to_vec(), right.to_vec());
-        let answer = proved::multiply(row_sum, n, q, left, right, scratch.buffer(), output.buffer());
+        let outcome = proved::multiply(row_sum, n, q, left, right, scratch.buffer(), output.buffer());
 
         let mut plain_scratch = vec![JUNK; self.scratch];
         let mut plain_output = vec![JUNK; self.output];
         let expected = plain::multiply(row_sum, n, q, left, right, &mut plain_scratch, &mut plain_output);
 
-        same(answer, expected, describe)?;
+        same(outcome, expected, describe)?;
         same_list(output.buffer(), &plain_output, describe)?;
-        let word = if answer == Answer::NO_CALL { JUNK } else { 0 };
+        let word = if outcome == Outcome::NO_CALL { JUNK } else { 0 };
         same_list(scratch.buffer(), &vec![word; self.scratch], || format!("{}\nin scratch:", describe()))?;
-        if answer == Answer::DONE {
+        if outcome == Outcome::DONE {
             let karatsuba = Karatsuba(Ring::new(n, q).expect("there is such a ring"));
             karatsuba.multiply(left, right, &mut [], &mut plain_output).expect("they are elements");
             same_list(output.buffer(), &plain_output, || format!("{}\nby Karatsuba's rule:", describe()))?;
@@ -76,19 +76,19 @@ impl Call<'_> {
         holds(scratch.walls_stand(), "wrote past an end of scratch", describe)?;
         holds(output.walls_stand(), "wrote past an end of the output", describe)?;
         holds(left == left_before && right == right_before, "wrote to a list", describe)?;
-        Ok(answer)
+        Ok(outcome)
     }
 }
 
-/// The product of two elements by both multipliers, with scratch as long as needed and longer. The answer is how many
+/// The product of two elements by both multipliers, with scratch as long as needed and longer. The result is how many
 /// cases these are.
 fn compare_product(n: usize, q: u32, left: &[u32], right: &[u32]) -> Result<u64, Difference> {
     let calls = [(SCHOOLBOOK, 0), (ROW_SUM, 0), (SCHOOLBOOK, 3), (ROW_SUM, 1)];
     for (row_sum, more) in calls {
         let scratch = need(row_sum, n) + more;
         let call = Call { row_sum, n, q, left, right, scratch, output: n };
-        let answer = call.compare()?;
-        holds(answer == Answer::DONE, "refused two elements", || call.describe())?;
+        let outcome = call.compare()?;
+        holds(outcome == Outcome::DONE, "refused two elements", || call.describe())?;
     }
     Ok(calls.len() as u64)
 }
@@ -193,7 +193,7 @@ pub fn every_place(random: &mut Random) -> Result<u64, Difference> {
             let (left, right) = lists.split_at(n);
             for row_sum in [SCHOOLBOOK, ROW_SUM] {
                 let call = Call { row_sum, n, q, left, right, scratch: need(row_sum, n), output: n };
-                let expected = Answer(2 << 56 | place as u64);
+                let expected = Outcome(2 << 56 | place as u64);
                 same(call.compare()?, expected, || call.describe())?;
                 cases += 1;
             }

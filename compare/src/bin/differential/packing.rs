@@ -1,7 +1,7 @@
 //! Packing and unpacking.
 
-use compare::answer::Answer;
 use compare::message::Width;
+use compare::outcome::Outcome;
 use compare::random::Random;
 use compare::{plain, proved};
 
@@ -12,37 +12,37 @@ const JUNK: u32 = 0xdead_beef;
 const JUNK_BYTE: u8 = 0xa5;
 
 /// Packs on both sides, with junk in the output before, and compares what is left there.
-fn compare_pack(width: u32, numbers: &[u32], length: usize) -> Result<(Answer, Vec<u8>), Difference> {
+fn compare_pack(width: u32, numbers: &[u32], length: usize) -> Result<(Outcome, Vec<u8>), Difference> {
     let describe = || format!("pack, width {width}, output {length} long, numbers {}", brief(numbers));
     let before = numbers.to_vec();
     let mut output = Walled::new(length, JUNK_BYTE);
-    let answer = proved::pack(width, numbers, output.buffer());
+    let outcome = proved::pack(width, numbers, output.buffer());
 
     let mut plain_output = vec![JUNK_BYTE; length];
     let expected = plain::pack(width, numbers, &mut plain_output);
 
-    same(answer, expected, describe)?;
+    same(outcome, expected, describe)?;
     same_list(output.buffer(), &plain_output, describe)?;
     holds(output.walls_stand(), "wrote past an end of the output", describe)?;
     holds(numbers == before, "wrote to the numbers", describe)?;
-    Ok((answer, plain_output))
+    Ok((outcome, plain_output))
 }
 
 /// Unpacks on both sides, with junk in the buffer before, and compares what is left there.
-fn compare_unpack(width: u32, bytes: &[u8], count: usize) -> Result<(Answer, Vec<u32>), Difference> {
+fn compare_unpack(width: u32, bytes: &[u8], count: usize) -> Result<(Outcome, Vec<u32>), Difference> {
     let describe = || format!("unpack, width {width}, {count} numbers, bytes {}", brief(bytes));
     let before = bytes.to_vec();
     let mut numbers = Walled::new(count, JUNK);
-    let answer = proved::unpack(width, bytes, numbers.buffer());
+    let outcome = proved::unpack(width, bytes, numbers.buffer());
 
     let mut plain_numbers = vec![JUNK; count];
     let expected = plain::unpack(width, bytes, &mut plain_numbers);
 
-    same(answer, expected, describe)?;
+    same(outcome, expected, describe)?;
     same_list(numbers.buffer(), &plain_numbers, describe)?;
     holds(numbers.walls_stand(), "wrote past an end of the numbers", describe)?;
     holds(bytes == before, "wrote to the bytes", describe)?;
-    Ok((answer, plain_numbers))
+    Ok((outcome, plain_numbers))
 }
 
 fn widths() -> impl Iterator<Item = Width> {
@@ -65,10 +65,10 @@ pub fn round_trips(random: &mut Random) -> Result<u64, Difference> {
             lists.push((0..count).map(|_| random.pick(&[0, 1, largest / 2, largest - 1, largest])).collect());
             lists.extend((0..20).map(|_| random.numbers(count, largest + 1)));
             for numbers in lists {
-                let (answer, packed) = compare_pack(bits, &numbers, length)?;
-                assert_eq!(answer, Answer::DONE, "these numbers fit");
-                let (answer, unpacked) = compare_unpack(bits, &packed, count)?;
-                assert_eq!(answer, Answer::DONE, "so many bytes are right");
+                let (outcome, packed) = compare_pack(bits, &numbers, length)?;
+                assert_eq!(outcome, Outcome::DONE, "these numbers fit");
+                let (outcome, unpacked) = compare_unpack(bits, &packed, count)?;
+                assert_eq!(outcome, Outcome::DONE, "so many bytes are right");
                 assert_eq!(unpacked, numbers);
                 cases += 2;
             }
@@ -122,8 +122,8 @@ pub fn every_place(random: &mut Random) -> Result<u64, Difference> {
             for place in 0..count {
                 let mut numbers = fine.clone();
                 numbers[place] = random.pick(&too_large);
-                let (answer, _) = compare_pack(bits, &numbers, length)?;
-                assert_eq!(answer, Answer(2 << 56 | place as u64), "the one that does not fit is at {place}");
+                let (outcome, _) = compare_pack(bits, &numbers, length)?;
+                assert_eq!(outcome, Outcome(2 << 56 | place as u64), "the one that does not fit is at {place}");
                 numbers[random.below(count as u32) as usize] = random.pick(&too_large);
                 compare_pack(bits, &numbers, length)?;
                 cases += 2;
