@@ -8,8 +8,11 @@ use message::{Answer, Confirmation, Offer};
 use profile::Profile;
 use std::alloc::Global;
 
+/// That what was written is what was read.
 fn check_same(written: &[u8], message: &[u8]) -> Result<(), Failure>
-    ensures { MatchResult result (λ _. written.now ≡ message.now) (λ _. written.now ≡ message.now → ⊥) }
+    ensures { MatchResult result
+        (λ _. written.now ≡ message.now)
+        (λ _. written.now ≡ message.now → ⊥) }
 {
     if written == message {
         Ok(())
@@ -18,6 +21,7 @@ fn check_same(written: &[u8], message: &[u8]) -> Result<(), Failure>
     }
 }
 
+/// That the message is the offer of these parts.
 pub fn rewrite_offer<P: Profile>(
     alloc: Global,
     parts: Offer<'_>,
@@ -31,6 +35,7 @@ pub fn rewrite_offer<P: Profile>(
     check_same(&written, message)
 }
 
+/// That the message is the answer of these parts.
 pub fn rewrite_answer<P: Profile>(
     alloc: Global,
     parts: Answer<'_>,
@@ -44,6 +49,7 @@ pub fn rewrite_answer<P: Profile>(
     check_same(&written, message)
 }
 
+/// That the message is the confirmation of this round.
 pub fn rewrite_confirmation<P: Profile>(
     alloc: Global,
     parts: Confirmation,

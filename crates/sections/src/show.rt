@@ -129,6 +129,7 @@ pub fn show<P: Profile>(
     }
 }
 
+/// The layer, the number and the place of the fault of a message.
 pub fn show_refusal(rt: &impl Print, kind: Kind, fault: Fault) -> io::Result<()> {
     println!(rt;
         "{} refused: layer {}, fault {} at {}",
