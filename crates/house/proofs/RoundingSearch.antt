@@ -124,3 +124,5 @@ module _ (r : Rounding) where
         let above = over_high h in
         round_unique x (low + r.step) (rounded_high x (low + r.step) range class (omega arith)
         (λ z e. let is : low ≡ z = omega arith in subst (λ n. distance (recover r.q r.p r.step (low + r.step)) x < distance (recover r.q r.p r.step n) x) is (omega arith)))
+
+pub ruleset round_steps = (round_first, round_down, round_up, low_under, over_high)

@@ -8,7 +8,7 @@ use Rattle.reconcile.specs.Okcn.{okcn_numbers, okcn_functions}
 use Rattle.reconcile.specs.Reconcilers.{Reconciliation, tolerance}
 use Rattle.house.specs.Rounding.{round, recover}
 use Rattle.reconcile.specs.declared.reconciler.ReconcilerNumbers.{ReconcilerNumbers}
-use Rattle.house.specs.declared.sizes.Sizes.{Sizes}
+use Rattle.house.specs.declared.number_set.Sizes.{Sizes}
 
 abbrev pub house_numbers : Sizes → ReconcilerNumbers → Numbers
 house_numbers s k = record {
@@ -37,22 +37,106 @@ house_functions s k f = record {
 }
 
 abbrev pub t_ding : Numbers
-t_ding = record { n = 4; q = 257; p = 63; w = 6; e = 1; l = 4; step = 2; r = 4; tau = 63; coins = 2; signal_width = 1; numbers_byte = 1; reconciler_byte = 1 }
+t_ding = record {
+  n = 4;
+  q = 257;
+  p = 63;
+  w = 6;
+  e = 1;
+  l = 4;
+  step = 2;
+  r = 4;
+  tau = 63;
+  coins = 2;
+  signal_width = 1;
+  numbers_byte = 1;
+  reconciler_byte = 1;
+}
 
 abbrev pub t_okcn : Numbers
-t_okcn = record { n = 4; q = 257; p = 63; w = 6; e = 1; l = 4; step = 1; r = 2; tau = 47; coins = 2; signal_width = 2; numbers_byte = 1; reconciler_byte = 2 }
+t_okcn = record {
+  n = 4;
+  q = 257;
+  p = 63;
+  w = 6;
+  e = 1;
+  l = 4;
+  step = 1;
+  r = 2;
+  tau = 47;
+  coins = 2;
+  signal_width = 2;
+  numbers_byte = 1;
+  reconciler_byte = 2;
+}
 
 abbrev pub s_ding : Numbers
-s_ding = record { n = 512; q = 12289; p = 4095; w = 12; e = 2; l = 191; step = 2; r = 4; tau = 3071; coins = 2; signal_width = 1; numbers_byte = 2; reconciler_byte = 1 }
+s_ding = record {
+  n = 512;
+  q = 12289;
+  p = 4095;
+  w = 12;
+  e = 2;
+  l = 191;
+  step = 2;
+  r = 4;
+  tau = 3071;
+  coins = 2;
+  signal_width = 1;
+  numbers_byte = 2;
+  reconciler_byte = 1;
+}
 
 abbrev pub s_okcn : Numbers
-s_okcn = record { n = 512; q = 12289; p = 4095; w = 12; e = 2; l = 191; step = 1; r = 2; tau = 2303; coins = 2; signal_width = 2; numbers_byte = 2; reconciler_byte = 2 }
+s_okcn = record {
+  n = 512;
+  q = 12289;
+  p = 4095;
+  w = 12;
+  e = 2;
+  l = 191;
+  step = 1;
+  r = 2;
+  tau = 2303;
+  coins = 2;
+  signal_width = 2;
+  numbers_byte = 2;
+  reconciler_byte = 2;
+}
 
 abbrev pub w_ding : Numbers
-w_ding = record { n = 256; q = 8380417; p = 16383; w = 14; e = 7; l = 1792; step = 2; r = 512; tau = 2095103; coins = 2; signal_width = 1; numbers_byte = 3; reconciler_byte = 1 }
+w_ding = record {
+  n = 256;
+  q = 8380417;
+  p = 16383;
+  w = 14;
+  e = 7;
+  l = 1792;
+  step = 2;
+  r = 512;
+  tau = 2095103;
+  coins = 2;
+  signal_width = 1;
+  numbers_byte = 3;
+  reconciler_byte = 1;
+}
 
 abbrev pub w_okcn : Numbers
-w_okcn = record { n = 256; q = 8380417; p = 16383; w = 14; e = 7; l = 1792; step = 1; r = 256; tau = 1571327; coins = 2; signal_width = 2; numbers_byte = 3; reconciler_byte = 2 }
+w_okcn = record {
+  n = 256;
+  q = 8380417;
+  p = 16383;
+  w = 14;
+  e = 7;
+  l = 1792;
+  step = 1;
+  r = 256;
+  tau = 1571327;
+  coins = 2;
+  signal_width = 2;
+  numbers_byte = 3;
+  reconciler_byte = 2;
+}
 
 -- each house profile meets the side conditions and the four laws
 pub record HouseProfilesLawful : Type 0 where

@@ -2,7 +2,7 @@
 use Rattle.std.specs.Prelude.{◌≡◌, ℕ, ◌+◌, ◌-◌, ◌*◌, ◌/◌, ◌%◌, ◌^◌, ◌<◌, ◌≤◌}
 use Rattle.ring.specs.Residues.{IsModulus}
 use Rattle.profile.specs.declared.bounds.Bounds.{Bounds}
-use Rattle.house.specs.declared.sizes.Sizes.{Sizes}
+use Rattle.house.specs.declared.number_set.Sizes.{Sizes}
 
 pub record Admissible (s : Sizes) : Type 0 where
   pub n_power : (m : ℕ) × (2 ≤ m) × (m ≤ 10) × (s.n ≡ 2 ^ m)

@@ -1,5 +1,6 @@
 -- House rounding: a residue below q is rounded to a value in 0 .. p of its own class modulo step.
-use Rattle.std.specs.Prelude.{◌≡◌, ℕ, zero, suc, ◌+◌, ◌-◌, ◌*◌, ◌/◌, ◌%◌, ◌<◌, ◌≤◌, Bool, ◌⊎◌, ◌==◌, ◌≢◌, nat_lt, if◌then◌else◌}
+use Rattle.std.specs.Prelude.{ℕ, zero, suc, ◌+◌, ◌-◌, ◌*◌, ◌/◌, ◌%◌, Bool, ◌==◌, nat_lt, if◌then◌else◌}
+use Rattle.std.specs.Prelude.{◌≡◌, ◌≢◌, ◌<◌, ◌≤◌, ◌⊎◌, ◌↔◌}
 
 -- the first of so many numbers, from `from` on, that passes
 abbrev pub least_from : ℕ → ℕ → (ℕ → Bool) → ℕ
@@ -33,7 +34,8 @@ module _ (q p step : ℕ) where
 
   -- the candidate in 0 .. p that recovers nearest to x, the smaller at a tie
   abbrev pub round : ℕ → ℕ
-  round x = candidate step x (argmin (λ i. distance (recover (candidate step x i)) x) ((p - x % step) / step))
+  round x =
+      candidate step x (argmin (λ i. distance (recover (candidate step x i)) x) ((p - x % step) / step))
 
   -- what it is to be recovered from y
   pub record IsRecovered (y t : ℕ) : Type 0 where
@@ -45,12 +47,15 @@ module _ (q p step : ℕ) where
   pub record IsRounded (x y : ℕ) : Type 0 where
     pub range : y ≤ p
     pub class : y % step ≡ x % step
-    pub nearest : (z : ℕ) → z ≤ p → z % step ≡ x % step → distance (recover y) x ≤ distance (recover z) x
-    pub smallest : (z : ℕ) → z ≤ p → z % step ≡ x % step → distance (recover z) x ≡ distance (recover y) x → y ≤ z
+    pub nearest : (z : ℕ) → z ≤ p → z % step ≡ x % step
+        → distance (recover y) x ≤ distance (recover z) x
+    pub smallest : (z : ℕ) → z ≤ p → z % step ≡ x % step
+        → distance (recover z) x ≡ distance (recover y) x → y ≤ z
 
   -- another value of the class of x recovers as near to x as y does
   abbrev pub Tied : ℕ → ℕ → Type 0
-  Tied x y = (z : ℕ) × (z ≤ p) × (z % step ≡ x % step) × (z ≢ y) × (distance (recover z) x ≡ distance (recover y) x)
+  Tied x y = (z : ℕ) × (z ≤ p) × (z % step ≡ x % step) × (z ≢ y)
+      × (distance (recover z) x ≡ distance (recover y) x)
 
   -- x lies midway between what y and the next value of its class recover to
   abbrev pub Midway : ℕ → ℕ → Type 0
@@ -58,8 +63,11 @@ module _ (q p step : ℕ) where
 
 -- for every p from 1 to below q and every step, recovering and rounding are what they are called
 abbrev pub RoundingIsNearest : Type 0
-RoundingIsNearest = (q p step : ℕ) → 0 < p → p < q → (step ≡ 1) ⊎ (step ≡ 2) → ((y : ℕ) → IsRecovered q p step y (recover q p step y)) × ((x : ℕ) → IsRounded q p step x (round q p step x))
+RoundingIsNearest = (q p step : ℕ) → 0 < p → p < q → (step ≡ 1) ⊎ (step ≡ 2)
+    → ((y : ℕ) → IsRecovered q p step y (recover q p step y))
+    × ((x : ℕ) → IsRounded q p step x (round q p step x))
 
 -- another value is as near as the rounded one exactly where x lies midway between that and the next
 abbrev pub TieIsMidway : Type 0
-TieIsMidway = (q p step : ℕ) → 0 < p → p < q → (step ≡ 1) ⊎ (step ≡ 2) → (x : ℕ) → (Tied q p step x (round q p step x) → Midway q p step x (round q p step x)) × (Midway q p step x (round q p step x) → Tied q p step x (round q p step x))
+TieIsMidway = (q p step : ℕ) → 0 < p → p < q → (step ≡ 1) ⊎ (step ≡ 2) → (x : ℕ)
+    → (Tied q p step x (round q p step x) ↔ Midway q p step x (round q p step x))

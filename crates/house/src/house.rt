@@ -15,96 +15,97 @@ use ring::{Fault, Modulus};
 use std::marker::PhantomData;
 
 /// The profile of a number set with a reconciler.
-pub struct House<S, K> {
-    parts: PhantomData<(S, K)>,
+pub struct House<N, R> {
+    parts: PhantomData<(N, R)>,
 }
 
-/// The modulus of a number set. `profile::modulus` gives the same of a profile, but the impl of Profile below cannot call it for
-/// itself: the check covers no call that leads back to a method of the same impl.
-fn modulus_of<S: NumberSet>() -> Modulus
-    ensures { result.q ≡ S.SIZES.q }
+/// The modulus of a number set. `profile::modulus` gives the same of a profile, but the impl of
+/// Profile below cannot call it for itself: the check covers no call that leads back to a method
+/// of the same impl.
+fn modulus_of<N: NumberSet>() -> Modulus
+    ensures { result ≡ N.SIZES.q }
 {
-    Modulus::new(S::SIZES.q).unwrap()
+    Modulus::new(N::SIZES.q).unwrap()
 }
 
 /// Rounding by the numbers of the number set, in the steps of the reconciler.
-fn rounding<S: NumberSet, K: Reconciler>() -> Rounding
-    ensures q { result.q ≡ S.SIZES.q }
-    ensures p { result.p ≡ S.SIZES.p }
-    ensures step { result.step ≡ K.NUMBERS.step }
+fn rounding<N: NumberSet, R: Reconciler>() -> Rounding
+    ensures q { result.q ≡ N.SIZES.q }
+    ensures p { result.p ≡ N.SIZES.p }
+    ensures step { result.step ≡ R.NUMBERS.step }
 {
-    let s = S::SIZES;
+    let sizes = N::SIZES;
     Rounding {
-        q: s.q,
-        p: s.p,
-        step: K::NUMBERS.step,
+        q: sizes.q,
+        p: sizes.p,
+        step: R::NUMBERS.step,
     }
 }
 
 /// The largest difference that the reconciler tolerates at the modulus of the number set.
-const fn tau<S: NumberSet, K: Reconciler>() -> u32
-    ensures { result ≡ tolerance K.NUMBERS S.SIZES.q }
+const fn tau<N: NumberSet, R: Reconciler>() -> u32
+    ensures { result ≡ tolerance R.NUMBERS N.SIZES.q }
 {
-    let formula = K::NUMBERS.tolerance;
-    (formula.times * S::SIZES.q).saturating_sub(formula.less) >> formula.shift
+    let formula = R::NUMBERS.tolerance;
+    (formula.times * N::SIZES.q).saturating_sub(formula.less) >> formula.shift
 }
 
-impl<S: NumberSet, K> SecretBounds for House<S, K> {
+impl<N: NumberSet, R> SecretBounds for House<N, R> {
     const BOUNDS: Bounds = Bounds {
-        n: S::SIZES.n,
-        e: S::SIZES.e,
-        l: S::SIZES.l,
+        n: N::SIZES.n,
+        e: N::SIZES.e,
+        l: N::SIZES.l,
     };
 
-    ghost BOUNDS = { bounds_of_sizes S.SIZES };
+    ghost BOUNDS = { bounds_of_sizes N.SIZES };
 }
 
-impl<S: NumberSet, K: Reconciler> Profile for House<S, K> {
-    type Secret = Place<House<S, K>>;
+impl<N: NumberSet, R: Reconciler> Profile for House<N, R> {
+    type Secret = Place<House<N, R>>;
 
     const NUMBERS: Numbers = Numbers {
         n: Self::BOUNDS.n,
-        q: S::SIZES.q,
-        p: S::SIZES.p,
-        w: S::SIZES.w,
+        q: N::SIZES.q,
+        p: N::SIZES.p,
+        w: N::SIZES.w,
         e: Self::BOUNDS.e,
         l: Self::BOUNDS.l,
-        step: K::NUMBERS.step,
-        r: K::NUMBERS.step * S::SIZES.rounding,
-        tau: tau::<S, K>(),
-        coins: K::NUMBERS.coins,
-        signal_width: K::NUMBERS.signal_width,
-        numbers_byte: S::SIZES.byte,
-        reconciler_byte: K::NUMBERS.byte,
+        step: R::NUMBERS.step,
+        r: R::NUMBERS.step * N::SIZES.rounding,
+        tau: tau::<N, R>(),
+        coins: R::NUMBERS.coins,
+        signal_width: R::NUMBERS.signal_width,
+        numbers_byte: N::SIZES.byte,
+        reconciler_byte: R::NUMBERS.byte,
     };
 
-    ghost NUMBERS = { house_numbers S.SIZES K.NUMBERS };
+    ghost NUMBERS = { house_numbers N.SIZES R.NUMBERS };
 
-    ghost functions = { house_functions S.SIZES K.NUMBERS K.meaning };
+    ghost functions = { house_functions N.SIZES R.NUMBERS R.meaning };
 
-    ghost lawful = { house_lawful S.SIZES K.NUMBERS K.meaning S.admissible K.sound };
+    ghost lawful = { house_lawful N.SIZES R.NUMBERS R.meaning N.admissible R.sound };
 
     ghost secret_bounds = { Prim.search rules };
 
     fn round(x: u32) -> Result<u32, Fault> {
-        if x >= S::SIZES.q {
+        if x >= N::SIZES.q {
             return Err(Fault::OutOfRange(0));
         }
-        Ok(rounding::<S, K>().round(x))
+        Ok(rounding::<N, R>().round(x))
     }
 
     fn recover(y: u32) -> Result<u32, Fault> {
-        if y > S::SIZES.p {
+        if y > N::SIZES.p {
             return Err(Fault::OutOfRange(0));
         }
-        Ok(rounding::<S, K>().recover(y))
+        Ok(rounding::<N, R>().recover(y))
     }
 
     fn reconcile(x: u32, coin: u8) -> Result<(u32, u32), Fault> {
-        K::reconcile(modulus_of::<S>(), x, coin)
+        R::reconcile(modulus_of::<N>(), x, coin)
     }
 
     fn read(y: u32, signal: u32) -> Result<u32, Fault> {
-        K::read(modulus_of::<S>(), y, signal)
+        R::read(modulus_of::<N>(), y, signal)
     }
 }

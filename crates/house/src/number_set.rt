@@ -1,13 +1,33 @@
-//! The three number sets.
+//! What a number set is, and the three that there are.
 
 ghost use Rattle.house.specs.NumberSets.{Admissible, sizes_t, sizes_s, sizes_w};
-ghost use Rattle.house.specs.declared.sizes.Sizes.{Sizes};
+ghost use Rattle.house.specs.declared.number_set.Sizes.{Sizes};
 ghost use Rattle.house.specs.LawProofs.AdmissibleSets.{admissible_t, admissible_s, admissible_w};
 
-use crate::sizes::Sizes;
+/// The numbers of a number set.
+#[derive(Clone, Copy, PartialEq, Eq, Debug)]
+pub struct Sizes {
+    /// the degree: an element is n residues
+    pub n: usize,
+    /// the modulus
+    pub q: u32,
+    /// the largest rounded value, 2^w - 1
+    pub p: u32,
+    /// the bits of a rounded value
+    pub w: u32,
+    /// the largest size of a secret or error coefficient
+    pub e: u32,
+    /// the largest sum of sizes over a secret
+    pub l: u32,
+    /// the largest rounding distance, in steps
+    pub rounding: u32,
+    /// the byte that names the number set
+    pub byte: u8,
+}
 
 /// What a house profile has apart from its reconciler.
 pub trait NumberSet {
+    /// The numbers of the set.
     const SIZES: Sizes;
 
     ghost SIZES: { Sizes };
@@ -15,7 +35,7 @@ pub trait NumberSet {
     ghost admissible: { Admissible SIZES };
 }
 
-/// Small enough to work through by hand.
+/// The number set T, small enough to work through by hand.
 pub struct T;
 
 impl NumberSet for T {
@@ -35,7 +55,7 @@ impl NumberSet for T {
     ghost admissible = { admissible_t };
 }
 
-/// Small numbers.
+/// The number set S, with a small modulus.
 pub struct S;
 
 impl NumberSet for S {
@@ -55,7 +75,7 @@ impl NumberSet for S {
     ghost admissible = { admissible_s };
 }
 
-/// A wide modulus.
+/// The number set W, with a wide modulus.
 pub struct W;
 
 impl NumberSet for W {

@@ -1,4 +1,4 @@
-//! House rounding: a residue below q goes to a value in 0 .. p of its own class modulo step, and back.
+//! House rounding: a residue goes to a value in 0 .. p of its own class modulo step, and back.
 
 ghost use Rattle.std.specs.Prelude.{◌≡◌, ◌+◌, ◌*◌, ◌/◌, ◌^◌, ◌<◌, ◌≤◌};
 ghost use Rattle.house.specs.Rounding.{recover as recover_value, round as round_value};
@@ -29,7 +29,7 @@ impl Rounding {
     }
 
     /// The value in 0 .. p of the class of x that recovers nearest to x, the smaller at a tie.
-    #[tactic(auto, using(crate::proofs::RoundingSearch::round_first, crate::proofs::RoundingSearch::round_down, crate::proofs::RoundingSearch::round_up, crate::proofs::RoundingSearch::low_under, crate::proofs::RoundingSearch::over_high))]
+    #[tactic(auto, using(crate::proofs::RoundingSearch::round_steps))]
     pub(crate) fn round(self, x: u32) -> u32
         requires { x < self.q }
         ensures { result ≡ round_value self.q self.p self.step x }

@@ -1,8 +1,10 @@
-//! What is proved of the house profiles as a whole. A theorem stands on a function's contract, where the check asks for its proof.
+//! What is proved of the house profiles as a whole. A theorem stands on a function's contract,
+//! where the check asks for its proof.
 
 ghost use Rattle.std.specs.Prelude.{◌≡◌, [], ◌∷◌};
 ghost use Rattle.house.specs.WorkedValues.{WorkedValues};
-ghost use Rattle.house.specs.House.{t_ding, t_okcn, s_ding, s_okcn, w_ding, w_okcn, HouseProfilesLawful};
+ghost use Rattle.house.specs.House.{t_ding, t_okcn, s_ding, s_okcn, w_ding, w_okcn};
+ghost use Rattle.house.specs.House.{HouseProfilesLawful};
 ghost use Rattle.house.specs.Rounding.{RoundingIsNearest, TieIsMidway};
 
 use crate::house::House;
@@ -25,17 +27,20 @@ pub fn house_profiles() -> [Numbers; 6]
     ]
 }
 
-/// Recovering gives the least integer of its class, and rounding the nearest value of its class, for every modulus and step.
+/// Recovering gives the least integer of its class, and rounding the nearest value of its class,
+/// for every modulus and step.
 pub fn rounding_is_nearest()
     ensures { RoundingIsNearest }
 {}
 
-/// A residue is a tie, with another value as near, exactly where it lies midway between its rounded value and the next.
+/// A residue is a tie, with another value as near, exactly where it lies midway between its
+/// rounded value and the next.
 pub fn tie_is_midway()
     ensures { TieIsMidway }
 {}
 
-/// What the functions of the profiles at T, and the product at its n and q, give at the values that were worked out by hand.
+/// What the functions of the profiles at T, and the product at its n and q, give at the values
+/// that were worked out by hand.
 pub fn worked_values_hold()
     ensures { WorkedValues }
 {}

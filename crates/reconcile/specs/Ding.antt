@@ -1,6 +1,7 @@
--- The reconciler of the Ding key exchange: a signal bit says whether a residue lies in the inner half of the circle, and the
--- key bit is a parity. One of two coins moves the inner region by one.
-use Rattle.std.specs.Prelude.{ℕ, ◌+◌, ◌-◌, ◌*◌, ◌/◌, ◌%◌, Bool, ℤ, pos, ◌+ℤ◌, neg_ℤ, int_le, unsigned_abs, if◌then◌else◌, ◌&&◌}
+-- The reconciler of the Ding key exchange: a signal bit says whether a residue lies in the inner half of the
+-- circle, and the key bit is a parity. One of two coins moves the inner region by one.
+use Rattle.std.specs.Prelude.{ℕ, ◌+◌, ◌-◌, ◌*◌, ◌/◌, ◌%◌, Bool, if◌then◌else◌, ◌&&◌}
+use Rattle.std.specs.Prelude.{ℤ, pos, ◌+ℤ◌, neg_ℤ, int_le, unsigned_abs}
 use Rattle.ring.specs.Residues.{signed}
 use Rattle.reconcile.specs.Reconcilers.{Reconciliation}
 use Rattle.reconcile.specs.declared.reconciler.ReconcilerNumbers.{ReconcilerNumbers}

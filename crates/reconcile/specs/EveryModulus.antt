@@ -1,4 +1,5 @@
--- What the reconcilers are at every odd number from 3 to below 2^23, and not only at those that a number set may have.
+-- What the reconcilers are at every odd number from 3 to below 2^23, and not only at those that a number set
+-- may have.
 use Rattle.std.specs.Prelude.{ℕ}
 use Rattle.ring.specs.Residues.{IsModulus}
 use Rattle.reconcile.specs.Reconcilers.{Reconciles}

@@ -1,6 +1,9 @@
--- What a reconciler is: its numbers, its functions for every modulus, and the laws that it brings to a profile.
-use Rattle.std.specs.Prelude.{◌≡◌, ℕ, ◌-◌, ◌*◌, ◌/◌, ◌^◌, ◌<◌, ◌≤◌, ◌⊎◌}
+-- What a reconciler is: its numbers, its functions for every modulus, and the laws that it brings to a
+-- profile.
+use Rattle.std.specs.Prelude.{◌≡◌, ℕ, ◌-◌, ◌*◌, ◌/◌, ◌^◌, ◌<◌, ◌≤◌, ◌⊎◌, Result}
 use Rattle.ring.specs.Residues.{IsModulus}
+use Rattle.ring.specs.declared.fault.Fault.{Fault}
+use Rattle.profile.specs.Outcomes.{reconciled, key_bit_read}
 use Rattle.profile.specs.Laws.{ReadsWithin, Balanced}
 use Rattle.reconcile.specs.declared.reconciler.ReconcilerNumbers.{ReconcilerNumbers}
 
@@ -9,6 +12,14 @@ pub record Reconciliation : Type 0 where
   pub signal : ℕ → ℕ → ℕ → ℕ
   pub key_bit : ℕ → ℕ → ℕ → ℕ
   pub read : ℕ → ℕ → ℕ → ℕ
+
+-- what is reconciled and what is read at the modulus q
+module _ (k : ReconcilerNumbers) (f : Reconciliation) (q : ℕ) where
+  abbrev pub reconcile_outcome : ℕ → ℕ → Result (ℕ × ℕ) Fault
+  reconcile_outcome x coin = reconciled q k.coins (f.signal q) (f.key_bit q) x coin
+
+  abbrev pub read_outcome : ℕ → ℕ → Result ℕ Fault
+  read_outcome y signal = key_bit_read q k.signal_width (f.read q) y signal
 
 -- the largest difference that is tolerated at the modulus q
 abbrev pub tolerance : ReconcilerNumbers → ℕ → ℕ
@@ -35,8 +46,8 @@ pub record Reconciles (k : ReconcilerNumbers) (f : Reconciliation) (q : ℕ) : T
   pub reads_within : ReadsWithin q k.coins (f.signal q) (f.key_bit q) k.step (tolerance k q) (f.read q)
   pub balanced : Balanced q k.coins (f.signal q) (f.key_bit q) k.signal_width
 
--- a reconciler, for every modulus with floor(q / 8) at least 1, as that of each number set is. It need not be one at 3, 5 and
--- 7: a reconciler that tolerates floor(q / 8) - 1 may break a law there
+-- a reconciler, for every modulus with floor(q / 8) at least 1, as that of each number set is. It need not
+-- be one at 3, 5 and 7: a reconciler that tolerates floor(q / 8) - 1 may break a law there
 pub record Sound (k : ReconcilerNumbers) (f : Reconciliation) : Type 0 where
   pub small : SmallNumbers k
   pub at : (q : ℕ) → IsModulus q → 1 ≤ q / 8 → Reconciles k f q

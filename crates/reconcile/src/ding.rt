@@ -1,4 +1,5 @@
-//! The reconciler of the Ding key exchange: an inner region by one signal bit, and a parity for the key bit.
+//! The reconciler of the Ding key exchange: an inner region by one signal bit, and a parity for
+//! the key bit.
 
 ghost use Rattle.std.specs.Prelude.{◌≡◌, ◌<◌};
 ghost use Rattle.reconcile.specs.Ding.{ding_functions, ding_numbers, ding_read};
@@ -7,13 +8,14 @@ ghost use Rattle.reconcile.specs.LawProofs.Ding.{ding_sound};
 use crate::reconciler::{Reconciler, ReconcilerNumbers, Tolerance};
 use ring::{Fault, Modulus};
 
+/// The reconciler of the Ding key exchange. It tolerates even differences up to floor((q - 4) / 4).
 pub struct Ding;
 
 /// The parity of the signed form of y, which a signal of 1 moves by (q - 1) / 2.
 fn key_bit(q: Modulus, y: u32, signal: u32) -> u32
-    requires inside { y < q.q }
+    requires inside { y < q }
     requires small { signal < 2 }
-    ensures { result ≡ ding_read q.q y signal }
+    ensures { result ≡ ding_read q y signal }
 {
     let moved = (y + signal * ((q.value() - 1) / 2)) % q.value();
     q.signed(moved).unwrap().unsigned_abs() % 2

@@ -1,27 +1,14 @@
 //! The reconciler OKCN with two key values and four bands.
 
-ghost use Rattle.std.specs.Prelude.{◌≡◌, ◌*◌, ◌/◌, ◌^◌, ◌<◌};
 ghost use Rattle.reconcile.specs.Okcn.{okcn_numbers, okcn_functions};
 ghost use Rattle.reconcile.specs.LawProofs.Okcn.{okcn_sound};
 
 use crate::reconciler::{Reconciler, ReconcilerNumbers, Tolerance};
 use ring::{Fault, Modulus};
 
+/// The reconciler OKCN with two key values and four bands. It tolerates any differences up to
+/// floor((3 q - 8) / 16).
 pub struct Okcn;
-
-/// Which of the four bands of 0..q has `rest`; no division.
-fn band(q: u32, rest: u32) -> u32
-    requires inside { rest < q }
-    requires below { q < 2 ^ 23 }
-    ensures { result ≡ 4 * rest / q }
-{
-    match 4 * rest {
-        t if t < q => 0,
-        t if t < 2 * q => 1,
-        t if t < 3 * q => 2,
-        _ => 3,
-    }
-}
 
 impl Reconciler for Okcn {
     const NUMBERS: ReconcilerNumbers = ReconcilerNumbers {
@@ -47,14 +34,18 @@ impl Reconciler for Okcn {
         if x >= q {
             return Err(Fault::OutOfRange(0));
         }
-        let z = match coin {
-            0 => 2 * x,
-            1 => 2 * x + 1,
+        // the half of 0..2q that 2x + coin lies in, and how far in; no division
+        let z = 2 * x + u32::from(coin);
+        let (key_bit, rest) = if z < q { (0, z) } else { (1, z - q) };
+        let t = 4 * rest;
+        let signal = match coin {
+            0 | 1 if t < q => 0,
+            0 | 1 if t < 2 * q => 1,
+            0 | 1 if t < 3 * q => 2,
+            0 | 1 => 3,
             _ => return Err(Fault::CoinOutOfRange(0)),
         };
-        // the half of 0..2q that z lies in, and how far in; no division
-        let (key_bit, rest) = if z < q { (0, z) } else { (1, z - q) };
-        Ok((band(q, rest), key_bit))
+        Ok((signal, key_bit))
     }
 
     fn read(q: Modulus, y: u32, signal: u32) -> Result<u32, Fault> {

@@ -1,8 +1,8 @@
 //! How two ends that hold nearly equal residues agree on a key bit.
 
 ghost use Rattle.std.specs.Prelude.{◌≡◌};
-ghost use Rattle.profile.specs.Outcomes.{reconciled, key_bit_read};
 ghost use Rattle.reconcile.specs.Reconcilers.{Reconciliation, Sound};
+ghost use Rattle.reconcile.specs.Reconcilers.{reconcile_outcome, read_outcome};
 ghost use Rattle.reconcile.specs.declared.reconciler.ReconcilerNumbers.{ReconcilerNumbers};
 
 use ring::{Fault, Modulus};
@@ -10,21 +10,33 @@ use ring::{Fault, Modulus};
 /// The largest difference that is tolerated at the modulus q is floor((times q - less) / 2^shift).
 #[derive(Clone, Copy, PartialEq, Eq, Debug)]
 pub struct Tolerance {
+    /// what q is multiplied by, at most 16
     pub times: u32,
+    /// what is taken from that, at most 16
     pub less: u32,
+    /// the power of 2 that the rest is divided by, at most 16
     pub shift: u32,
 }
 
+/// The numbers of a reconciler, which are the same at every modulus.
 #[derive(Clone, Copy, PartialEq, Eq, Debug)]
 pub struct ReconcilerNumbers {
+    /// what the differences are multiples of, 1 or 2
     pub step: u32,
+    /// how many coins there are, from 1 to 255
     pub coins: u32,
+    /// the bits of a signal, from 1 to 8
     pub signal_width: u32,
+    /// the byte that names the reconciler
     pub byte: u8,
+    /// the largest difference that is tolerated
     pub tolerance: Tolerance,
 }
 
+/// A reconciler: its numbers, and its functions for every modulus. It owes the laws of a profile
+/// at each modulus that a number set may have.
 pub trait Reconciler {
+    /// The numbers of the reconciler.
     const NUMBERS: ReconcilerNumbers;
 
     ghost NUMBERS: { ReconcilerNumbers };
@@ -33,11 +45,11 @@ pub trait Reconciler {
 
     /// The signal and the key bit of a residue and a coin.
     fn reconcile(q: Modulus, x: u32, coin: u8) -> Result<(u32, u32), Fault>
-        ensures { result ≡ reconciled q.q NUMBERS.coins (meaning.signal q.q) (meaning.key_bit q.q) x coin };
+        ensures { result ≡ reconcile_outcome NUMBERS meaning q x coin };
 
     /// The key bit that a residue and the other end's signal give.
     fn read(q: Modulus, y: u32, signal: u32) -> Result<u32, Fault>
-        ensures { result ≡ key_bit_read q.q NUMBERS.signal_width (meaning.read q.q) y signal };
+        ensures { result ≡ read_outcome NUMBERS meaning q y signal };
 
     ghost sound: { Sound NUMBERS meaning };
 }

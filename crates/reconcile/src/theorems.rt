@@ -1,4 +1,5 @@
-//! What is proved of the reconcilers as a whole. A theorem stands on a function's contract, where the check asks for its proof.
+//! What is proved of the reconcilers as a whole. A theorem stands on a function's contract, where
+//! the check asks for its proof.
 
 ghost use Rattle.reconcile.specs.EveryModulus.{ReconcileAtEveryModulus};
 

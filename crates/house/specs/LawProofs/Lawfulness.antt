@@ -8,7 +8,7 @@ use Rattle.house.specs.House.{house_numbers, house_functions}
 use Rattle.house.specs.NumberSets.{Admissible}
 use Rattle.reconcile.specs.Reconcilers.{Reconciliation, Sound, Reconciles, tolerance}
 use Rattle.reconcile.specs.declared.reconciler.ReconcilerNumbers.{ReconcilerNumbers}
-use Rattle.house.specs.declared.sizes.Sizes.{Sizes}
+use Rattle.house.specs.declared.number_set.Sizes.{Sizes}
 
 module _ (s : Sizes) (admits : Admissible s) where
   pub p_positive : 0 < s.p

@@ -1,7 +1,7 @@
 -- OKCN: the eight bands of 0 .. 2q - 1, what is read near one, and how many residues each has.
 use Rattle.std.specs.Prelude.{◌≡◌, ℕ, zero, suc, ◌+◌, ◌-◌, ◌*◌, ◌/◌, ◌%◌, ◌<◌, ◌≤◌, ◌&&◌, ℤ, pos, negsuc, ◌+ℤ◌, ◌-ℤ◌, ◌*ℤ◌, Ok, Err, Decides, Result, ◌==◌, unsigned_abs, refl}
-use Rattle.std.proofs.Common.{inl, ◌∙◌, ap, add-mul, mul_assoc, mul_left_comm, mul-le-mul_right, mod-eq_of_lt, div-add-mod', div-mul-le_self, arith, lit<, lit≤}
-use Rattle.std.proofs.Math.Nat.{mod-eq-sub-mod, div-eq_of_lt, div-eq_of_lt-le, lt-div-mul-add, add-mul-div_right, mul-add-div_right}
+use Rattle.std.proofs.Common.{inl, ◌∙◌, ap, add-mul, mul_assoc, mul_left_comm, mul-le-mul_right, div-add-mod', div-mul-le_self, arith, lit<, lit≤}
+use Rattle.std.proofs.Math.Nat.{div-eq_of_lt-le, lt-div-mul-add, add-mul-div_right, mul-add-div_right}
 use Rattle.std.proofs.lemmas.Nat.{div_below, mod_below, div-mul-add}
 use Rattle.std.proofs.lemmas.Int.{ints, int_rem_euclid_is}
 use Rattle.std.proofs.lemmas.Bool.{cond_below}
@@ -40,22 +40,6 @@ floor_parity (negsuc a) n k m h e =
     let whole : m ≡ w * n + (n - 1 - a % n) = omega (arith, div-add-mod' a n) in
     omega (arith, ap (λ i. i / n) whole ∙ div-mul-add w n (n - 1 - a % n) (omega arith))
 
--- the half of 0 .. 2q - 1 that z lies in, and how far in
-module _ (q z : ℕ) where
-  pub lower_half : z < q → ◌≡◌ {A = ℕ × ℕ} (0, z) (z / q, z % q)
-  lower_half h = let quotient = div-eq_of_lt h in let rest = mod-eq_of_lt h in cc
-
-  pub upper_half : q ≤ z → z < 2 * q → ◌≡◌ {A = ℕ × ℕ} (1, z - q) (z / q, z % q)
-  upper_half from to =
-      let quotient : z / q ≡ 1 = div-eq_of_lt-le q (omega arith) (omega arith) in
-      let rest : z % q ≡ z - q = mod-eq-sub-mod from ∙ mod-eq_of_lt (omega arith) in
-      cc
-
-pub reconciled_from : (q x coin z v : ℕ) (half : ℕ × ℕ) → x < q → coin < 2 → z ≡ 2 * x + coin → half ≡ (z / q, z % q) → v ≡ 4 * half.1 / q → Ok (v, half.0) ≡ reconciled q 2 (okcn_signal q) (okcn_key_bit q) x coin
-reconciled_from q x coin z v half h l z-is half_is v-is =
-    let is : ◌≡◌ {A = Result (ℕ × ℕ) Fault} (Ok (v, half.0)) (Ok (okcn_signal q x coin, okcn_key_bit q x coin)) = cc in
-    is ∙ cond_below coin 2 _ (Err (CoinOutOfRange 0)) l ∙ cond_below x q _ (Err (OutOfRange 0)) h
-
 module _ (q x coin : ℕ) (positive : 0 < q) where
   -- the number of the band, of the eight, that z = 2x + coin lies in
   pub band_number : 4 * (2 * x + coin) / q ≡ 4 * okcn_key_bit q x coin + okcn_signal q x coin
@@ -87,6 +71,16 @@ module _ (q x coin : ℕ) (positive : 0 < q) where
   decides_band b v few =
       Decides-like _ (λ is. band_from_to b v is.0 is.1) (λ is. band_at b v few is.0 is.1)
       (Decides-and _ _ (Decides-eqb (okcn_signal q x coin) v) (Decides-eqb (okcn_key_bit q x coin) b))
+
+-- z = b q + rest, where rest lies in the band v of its half
+pub reconciled_from : (q x coin b rest v : ℕ) → x < q → coin < 2 → b * q + rest ≡ 2 * x + coin
+    → v < 4 → v * q ≤ 4 * rest → 4 * rest < v * q + q
+    → Ok (v, b) ≡ reconciled q 2 (okcn_signal q) (okcn_key_bit q) x coin
+reconciled_from q x coin b rest v h l z-is few from to =
+    let start : (4 * b + v) * q ≡ 4 * (b * q) + v * q = add-mul (4 * b) v q ∙ ap (λ n. n + v * q) (mul_assoc 4 b q) in
+    let at = band_at q x coin (omega arith) b v few (omega arith) (omega arith) in
+    let is : ◌≡◌ {A = Result (ℕ × ℕ) Fault} (Ok (v, b)) (Ok (okcn_signal q x coin, okcn_key_bit q x coin)) = cc in
+    is ∙ cond_below coin 2 _ (Err (CoinOutOfRange 0)) l ∙ cond_below x q _ (Err (OutOfRange 0)) h
 
 -- the product in what is read: 3 q is 2 v q more
 pub product_read : (q v : ℕ) → v < 4 → pos q *ℤ (pos 3 -ℤ pos (2 * v)) +ℤ pos (2 * (v * q)) ≡ pos (3 * q)

@@ -6,8 +6,8 @@ use Rattle.house.proofs.house.rounding.Goals as goal
 
 pub invariant_of-result : goal.invariant_of-result
 invariant_of-result g c =
-    let admits : Admissible c.SIZES-s.result = rw c.SIZES-s.ensures g.met.S.NumberSet.admissible in
-    let small : SmallNumbers c.NUMBERS.result = rw c.NUMBERS.ensures g.met.K.Reconciler.sound.small in
+    let admits : Admissible c.SIZES-sizes.result = rw c.SIZES-sizes.ensures g.N.NumberSet.admissible in
+    let small : SmallNumbers c.NUMBERS.result = rw c.NUMBERS.ensures g.met.R.Reconciler.sound.small in
     record {
       positive = p_positive _ admits;
       p_below = p_small _ admits;

@@ -8,7 +8,7 @@ use Rattle.reconcile.specs.LawProofs.Ding.{region_signal, signal_inside, signal_
 use Rattle.reconcile.proofs.ding.DingReconciler.reconcile.Goals as goal
 use Rattle.reconcile.proofs.ding.DingReconciler.reconcile.Goals.{in-0, in-0-2, in-0-2-2, in-1, in-1-2, in-1-2-2}
 
--- what a signed form that is answered tells of the residue
+-- what a signed form that is given tells of the residue
 module _ (q x : ℕ) (s : ℤ) (e : Ok s ≡ signed_outcome q x) where
   signed_below : x < q
   signed_below = grind (arith, nat_tests)
@@ -28,7 +28,7 @@ same_signal e f g = cc
 
 pub returns : goal.returns
 returns c =
-    let q = c.args.q.q in
+    let q = c.args.q in
     let coin = c.args.coin in
     let s = c.in_ok-s.s in
     let told = c.in_ok-s.ensures.value in

@@ -40,4 +40,4 @@ returns c =
     let floor-held : held floor ≡ floor = omega (arith, ints) in
     let rest-held : held rest ≡ rest = omega (arith, ints) in
     let is : nat_abs (held rest) ≡ okcn_read q y signal = cc (c.div_euclid-floor.ensures, c.rem_euclid.ensures.value) in
-    rw (← c.value-q.ensures) (ap Ok is ∙ cond_below signal 4 _ (Err (OutOfRange 0)) (omega arith) ∙ cond_below y q _ (Err (OutOfRange 0)) (omega arith))
+    rw (← c.value-q.ensures.value) (ap Ok is ∙ cond_below signal 4 _ (Err (OutOfRange 0)) (omega arith) ∙ cond_below y q _ (Err (OutOfRange 0)) (omega arith))
