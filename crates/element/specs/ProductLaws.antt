@@ -1,5 +1,6 @@
 -- The laws of the product of integer lists and of elements, for every n and modulus q.
-use Rattle.std.specs.Prelude.{◌≡◌, ℕ, ◌+◌, ◌*◌, ◌<◌, ◌≤◌, List, [], ◌∷◌, ◌++◌, map, length, ℤ, pos, ◌+ℤ◌, ◌*ℤ◌, neg_ℤ, sum_by, unsigned_abs}
+use Rattle.std.specs.Prelude.{◌≡◌, ℕ, ◌+◌, ◌*◌, ◌<◌, ◌≤◌, List, [], ◌∷◌, ◌++◌, map, length, sum_by}
+use Rattle.std.specs.Prelude.{ℤ, pos, ◌+ℤ◌, ◌*ℤ◌, neg_ℤ, unsigned_abs}
 use Rattle.std.specs.List.{range_with_len}
 use Rattle.ring.specs.Elements.{IsElement}
 use Rattle.ring.specs.Residues.{residue}
@@ -20,7 +21,7 @@ residues q u = map (residue q) u
 pub record ProductLaws : Type 0 where
   -- 1 times v is v
   pub one_times : (n : ℕ) (v : List ℤ) → 0 < n → length v ≡ n → integer_product n (pos 1 ∷ []) v ≡ v
-  -- x moves each coefficient a place up, and the last one to the front with its sign changed, since x^n is -1
+  -- x moves each coefficient a place up, and the last one to the front with its sign changed: x^n is -1
   pub x_times : (n : ℕ) (v : List ℤ) (z : ℤ) → 0 < length v → length v + 1 ≡ n
       → integer_product n (pos 0 ∷ pos 1 ∷ []) (v ++ z ∷ []) ≡ neg_ℤ z ∷ v
   -- the product is linear in the left factor
@@ -41,7 +42,8 @@ pub record ProductLaws : Type 0 where
       → integer_product n (integer_product n a s) t ≡ integer_product n (integer_product n a t) s
   pub either_order_of_elements : (n q : ℕ) (a s t : List ℕ) → 0 < q
       → product n q (product n q a s) t ≡ product n q (product n q a t) s
-  -- where no coefficient of u is larger than m, none of the product is larger than m times the sum of the sizes of v's
+  -- where no coefficient of u is larger than m, none of the product is larger than m times the sum of the
+  -- sizes of v's
   pub size : (n m : ℕ) (u v : List ℤ) (k : ℕ) → k < n → ((i : ℕ) → i < n → unsigned_abs (at u i) ≤ m)
       → unsigned_abs (coefficient n (at u) (at v) k) ≤ m * sum_by unsigned_abs v
   -- the product of the residues is the residues of the product

@@ -1,5 +1,7 @@
--- The product of ring elements: lists of n residues modulo q, coefficient 0 first, multiplied modulo x^n + 1 and q.
-use Rattle.std.specs.Prelude.{ℕ, zero, suc, ◌+◌, ◌-◌, List, map, ℤ, pos, ◌+ℤ◌, ◌*ℤ◌, neg_ℤ, nat_le, slice_index_or, if◌then◌else◌}
+-- The product of ring elements: lists of n residues modulo q, coefficient 0 first, multiplied modulo x^n + 1
+-- and q.
+use Rattle.std.specs.Prelude.{ℕ, zero, suc, ◌+◌, ◌-◌, nat_le, if◌then◌else◌, List, map, slice_index_or}
+use Rattle.std.specs.Prelude.{ℤ, pos, ◌+ℤ◌, ◌*ℤ◌, neg_ℤ}
 use Rattle.std.specs.List.{range_with_len}
 use Rattle.ring.specs.Residues.{residue}
 
@@ -16,7 +18,8 @@ at u i = slice_index_or u i (pos 0)
 abbrev pub shifted : ℕ → (ℕ → ℤ) → ℕ → ℕ → ℤ
 shifted n v k i = if nat_le i k then v (k - i) else neg_ℤ (v (k + n - i))
 
--- the coefficient k of u v modulo x^n + 1: u_i v_j, plus where i + j = k and minus where i + j = k + n, added up over i
+-- the coefficient k of u v modulo x^n + 1: u_i v_j, plus where i + j = k and minus where i + j = k + n,
+-- added up over i
 unfoldable pub coefficient : ℕ → (ℕ → ℤ) → (ℕ → ℤ) → ℕ → ℤ
 coefficient n u v k = sum_to n (λ i. u i *ℤ shifted n v k i)
 

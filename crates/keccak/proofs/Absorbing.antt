@@ -34,3 +34,5 @@ absorbed_is m rest last s t bs n are all is_rest is_state is_last by_adding =
     ∙ ap (λ l. l ++ last ∷ []) (sym are) in
     ap keccak_f (by_adding ∙ ap (λ a. added a last) (is_state ∙ ap after_blocks (take_all n bs all)))
     ∙ sym (fold_push absorbed_block (replicate 25 0) bs last) ∙ ap after_blocks (sym cut)
+
+pub ruleset absorbing_steps = (absorbed_more, absorbed_is)

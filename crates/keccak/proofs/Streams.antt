@@ -88,3 +88,5 @@ pub take_shake128 : (m : List ℕ) (d e : ℕ) → d ≤ e → take d (shake128 
 take_shake128 m d e below =
     shake128_from_bytes m (take d (shake128 m e)) d (length-take-le d (shake128 m e) (omega (arith, length_shake128 m e)))
     (λ k h. get_or-take d (shake128 m e) k 0 h ∙ shake128_byte m e k (omega arith))
+
+pub ruleset stream_laws = (length_shake128, take_shake128, shake128_byte)

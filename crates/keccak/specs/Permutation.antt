@@ -1,5 +1,5 @@
--- The permutation Keccak-f[1600] of FIPS 202, section 3. A state is a list of 25 lanes of 64 bits: lane (x, y) is
--- number x + 5 * y, and bit z of a lane has the weight 2 ^ z.
+-- The permutation Keccak-f[1600] of FIPS 202, section 3. A state is a list of 25 lanes of 64 bits: lane
+-- (x, y) is number x + 5 * y, and bit z of a lane has the weight 2 ^ z.
 use Rattle.std.specs.Prelude.{ℕ, zero, suc, ◌+◌, ◌-◌, ◌*◌, ◌/◌, ◌%◌, ◌^◌, bit_and, bit_or, bit_xor}
 use Rattle.std.specs.Prelude.{List, [], ◌∷◌, map, slice_index, slice_set}
 use Rattle.std.specs.List.{range_with_len}
@@ -21,7 +21,8 @@ complement v = (2 ^ 64 - 1) - v
 
 -- C[x] of theta: the parity of column x
 abbrev pub parity : List ℕ → ℕ → ℕ
-parity s x = bit_xor (bit_xor (bit_xor (bit_xor (lane s x 0) (lane s x 1)) (lane s x 2)) (lane s x 3)) (lane s x 4)
+parity s x =
+    bit_xor (bit_xor (bit_xor (bit_xor (lane s x 0) (lane s x 1)) (lane s x 2)) (lane s x 3)) (lane s x 4)
 
 -- D[x] of theta: what it adds to the lanes of column x
 abbrev pub effect : List ℕ → ℕ → ℕ
@@ -56,7 +57,8 @@ unfoldable pub pi : List ℕ → List ℕ
 pi s = by_lane (pi_lane s)
 
 abbrev pub chi_lane : List ℕ → ℕ → ℕ → ℕ
-chi_lane s x y = bit_xor (lane s x y) (bit_and (complement (lane s ((x + 1) % 5) y)) (lane s ((x + 2) % 5) y))
+chi_lane s x y =
+    bit_xor (lane s x y) (bit_and (complement (lane s ((x + 1) % 5) y)) (lane s ((x + 2) % 5) y))
 
 unfoldable pub chi : List ℕ → List ℕ
 chi s = by_lane (chi_lane s)

@@ -1,5 +1,5 @@
--- SHAKE128 of FIPS 202 for strings of bytes: the sponge of section 4 over Keccak-f[1600] at the rate of 168 bytes, with
--- the suffix 1111 and the padding pad10*1 in the bytes of appendix B.2.
+-- SHAKE128 of FIPS 202 for strings of bytes: the sponge of section 4 over Keccak-f[1600] at the rate of 168
+-- bytes, with the suffix 1111 and the padding pad10*1 in the bytes of appendix B.2.
 use Rattle.std.specs.Prelude.{ℕ, zero, suc, ◌+◌, ◌-◌, ◌*◌, ◌/◌, ◌%◌, ◌^◌, ◌==◌, bit_xor, if◌then◌else◌}
 use Rattle.std.specs.Prelude.{List, [], ◌∷◌, ◌++◌, map, length, take, drop, replicate, fold, slice_index}
 use Rattle.std.specs.List.{range_with_len}
@@ -57,7 +57,7 @@ squeezed (suc n) s = output_block s ++ squeezed n (keccak_f s)
 unfoldable pub shake128 : List ℕ → ℕ → List ℕ
 shake128 m d = take d (squeezed (d / rate + 1) (absorbed m))
 
--- The state that the next block of output is read from. A sponge keeps the state from before that permutation, so that
--- a block that is never read costs none.
+-- The state that the next block of output is read from. A sponge keeps the state from before that
+-- permutation, so that a block that is never read costs none.
 abbrev pub next_state : Shake128 → List ℕ
 next_state h = keccak_f h.lanes

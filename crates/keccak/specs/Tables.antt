@@ -33,7 +33,8 @@ walk (suc t) = next_place (walk t)
 -- the offsets that the first n steps of the walk give, by x + 5 * y
 abbrev pub walked_offsets : ℕ → List ℕ
 walked_offsets zero = replicate 25 0
-walked_offsets (suc t) = slice_set (walked_offsets t) ((walk t).0 + 5 * (walk t).1) ((t + 1) * (t + 2) / 2 % 64)
+walked_offsets (suc t) =
+    slice_set (walked_offsets t) ((walk t).0 + 5 * (walk t).1) ((t + 1) * (t + 2) / 2 % 64)
 
 pub record TablesFollowTheRules : Type 0 where
   pub constants : round_constants ≡ map round_constant (range_with_len 0 24)

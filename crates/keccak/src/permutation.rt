@@ -39,7 +39,8 @@ const ROTATION_OFFSETS: [u32; 25] = [
 #[tactic(auto, using(crate::proofs::Fills::filled_more))]
 fn by_lane<F: Fn(usize, usize) -> u64>(lane: F) -> [u64; 25]
     requires { (x y : ℕ) → x < 5 → y < 5 → F.pre lane x y }
-    ensures { (f : ℕ → ℕ → ℕ) → ((x y v : ℕ) → x < 5 → y < 5 → F.post lane x y v → v ≡ f x y) → result ≡ by_lane f }
+    ensures { (f : ℕ → ℕ → ℕ) → ((x y v : ℕ) → x < 5 → y < 5 → F.post lane x y v → v ≡ f x y)
+        → result ≡ by_lane f }
 {
     let mut lanes = [0; 25];
     for y in 0..5 {
@@ -99,12 +100,14 @@ fn chi(lanes: [u64; 25]) -> [u64; 25]
 /// Adds the constant of a round to lane (0, 0).
 #[tactic(auto, unfolding(crate::specs::Permutation::iota))]
 fn iota(mut lanes: [u64; 25], constant: u64) -> [u64; 25]
-    ensures { (round : ℕ) → constant ≡ slice_index round_constants round → result ≡ iota_of round lanes }
+    ensures { (round : ℕ) → constant ≡ slice_index round_constants round
+        → result ≡ iota_of round lanes }
 {
     lanes[0] ^= constant;
     lanes
 }
 
+/// Permutes a state, in 24 rounds.
 #[tactic(auto, using(crate::proofs::Rounds::round_steps))]
 pub(crate) fn keccak_f(lanes: &mut [u64; 25])
     ensures { lanes.new ≡ keccak_f lanes.old }

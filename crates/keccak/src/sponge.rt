@@ -17,7 +17,7 @@ pub struct Shake128 {
 
 impl Shake128 {
     /// The sponge after the whole message, padded as SHAKE128 has it.
-    #[tactic(auto, using(crate::proofs::Absorbing::absorbed_more, crate::proofs::Absorbing::absorbed_is))]
+    #[tactic(auto, using(crate::proofs::Absorbing::absorbing_steps))]
     pub fn absorb(message: &[u8]) -> Shake128
         ensures { next_state result ≡ absorbed message.now }
     {

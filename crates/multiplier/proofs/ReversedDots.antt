@@ -7,7 +7,6 @@ use Rattle.std.proofs.lemmas.List.{get_or-reverse, length-reverse}
 use Rattle.std.proofs.lemmas.List.Edits.{length-between, get_or-between}
 use Rattle.std.proofs.lemmas.List.Sums.{sum_by_more}
 use Rattle.std.proofs.lemmas.Slice.Zip.{length-zip, get_or-zip}
-use Rattle.ring.specs.declared.modulus.Modulus.{Modulus}
 use Rattle.multiplier.specs.Sums.{AreFactors, nat_sum, coefficient_mod}
 use Rattle.multiplier.proofs.Coefficients.{difference_is_coefficient}
 use Rattle.multiplier.proofs.NaturalSums.{nat_sum_same, nat_sum_bound}
@@ -38,10 +37,7 @@ module _ (left right : List ℕ) (long : length right ≡ length left) where
       ap (sum_by (λ (p : ℕ × ℕ). p.0 * p.1)) (sym (take-length (zip left (reverse right))) ∙ ap (λ (m : ℕ). take m (zip left (reverse right))) pairs_long)
       ∙ front_of_sum (length left) (omega arith)
 
-module _ (modulus : Modulus) (left right : List ℕ) (f : AreFactors modulus.q left right) where
-  abbrev q : ℕ
-  q = modulus.q
-
+module _ (q : ℕ) (left right : List ℕ) (f : AreFactors q left right) where
   -- a part of the two lists
   part_sum : (a e : ℕ) → a ≤ e → e ≤ length left
       → reversed_sum (between a e left) (between a e right) ≡ nat_sum (e - a) (λ t. get_or left (a + t) 0 * get_or right (e - 1 - t) 0)
@@ -70,7 +66,7 @@ module _ (modulus : Modulus) (left right : List ℕ) (f : AreFactors modulus.q l
   -- at most 1024 products below 2^46 stay below 2^56
   part_fits : (a e : ℕ) → a ≤ e → e ≤ length left → reversed_sum (between a e left) (between a e right) ≤ 2 ^ 56
   part_fits a e order inside =
-      let square : q * q ≤ 2 ^ 23 * 2 ^ 23 = mul-le q q (2 ^ 23) (2 ^ 23) (omega (arith, modulus.below)) (omega (arith, modulus.below)) in
+      let square : q * q ≤ 2 ^ 23 * 2 ^ 23 = mul-le q q (2 ^ 23) (2 ^ 23) (omega (arith, f.is_modulus.below)) (omega (arith, f.is_modulus.below)) in
       omega (arith, part_most a e order inside, mul-le (length left) (q * q) 1024 (2 ^ 23 * 2 ^ 23) f.short square)
 
   module _ (k : ℕ) (inside : k < length left) where
@@ -93,7 +89,7 @@ module _ (modulus : Modulus) (left right : List ℕ) (f : AreFactors modulus.q l
     module _ (plus minus : ℕ) (plus_is : plus ≡ reversed_sum (take (k + 1) left) (take (k + 1) right)) (minus_is : minus ≡ reversed_sum (between (k + 1) (length left) left) (between (k + 1) (length right) right)) where
       pub lifted_fits : plus + length left * q * q < 2 ^ 64
       lifted_fits =
-          let square : q * q ≤ 2 ^ 23 * 2 ^ 23 = mul-le q q (2 ^ 23) (2 ^ 23) (omega (arith, modulus.below)) (omega (arith, modulus.below)) in
+          let square : q * q ≤ 2 ^ 23 * 2 ^ 23 = mul-le q q (2 ^ 23) (2 ^ 23) (omega (arith, f.is_modulus.below)) (omega (arith, f.is_modulus.below)) in
           omega (arith, plus_is, front_is, part_fits 0 (k + 1) (omega arith) (omega arith), mul_assoc (length left) q q, mul-le (length left) (q * q) 1024 (2 ^ 23 * 2 ^ 23) f.short square)
 
       pub enough : minus ≤ plus + length left * q * q
@@ -104,7 +100,7 @@ module _ (modulus : Modulus) (left right : List ℕ) (f : AreFactors modulus.q l
       difference_of_parts =
           let n = length left in
           let whole : k + 1 - 0 ≡ k + 1 = omega arith in
-          difference_is_coefficient q left right k (omega (arith, modulus.at_least)) f.long inside plus minus (n * q)
+          difference_is_coefficient q left right k (omega (arith, f.is_modulus.at_least)) f.long inside plus minus (n * q)
           (plus_is ∙ front_is ∙ part_sum 0 (k + 1) (omega arith) (omega arith)
           ∙ ap (λ (m : ℕ). nat_sum m (λ t. get_or left (0 + t) 0 * get_or right (k + 1 - 1 - t) 0)) whole
           ∙ nat_sum_same (λ t. get_or left (0 + t) 0 * get_or right (k + 1 - 1 - t) 0) (λ t. get_or left t 0 * get_or right (k - t) 0) (k + 1)

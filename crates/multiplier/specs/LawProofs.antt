@@ -1,12 +1,12 @@
--- No definitions: the proofs of the multipliers' law, which the source cites. A ring's degree is a power of two, since
--- one bit of it is set.
+-- No definitions: the proofs of the multipliers' law, which the source cites. A ring's degree is a power of
+-- two, since one bit of it is set.
 use Rattle.std.specs.Prelude.{◌≡◌, ℕ, zero, suc, ◌*◌, ◌/◌, ◌%◌, ◌^◌, ◌<◌, ◌≤◌}
 use Rattle.std.proofs.Common.{inl, inr, ⊎_elim, pow-suc, arith}
 use Rattle.std.specs.Int.Count.{ones, ones_step}
 use Rattle.std.proofs.lemmas.Nat.{mul-le, ones_le_self, zero_from_ones}
 use Rattle.std.proofs.lemmas.Bool.{cases_eq}
 use Rattle.multiplier.specs.Multipliers.{IsDegree, InRange}
-use Rattle.multiplier.specs.declared.quotient.QuotientRing.{QuotientRing}
+use Rattle.multiplier.specs.Rings.{Ring}
 
 one_bit : (k n : ℕ) → n < 2 ^ k → ones n ≡ 1 → (m : ℕ) × (m < k) × (n ≡ 2 ^ m)
 one_bit zero n h one = absurd (omega (arith, ones_le_self n))
@@ -26,9 +26,10 @@ degree_from_ones n one most =
     (m.0, omega (arith, m.1), m.2)
 
 -- with no more than 64 scratch words for each coefficient
-pub in_range : (ring : QuotientRing) (words : ℕ) → words ≤ 64 → InRange ring.degree ring.modulus.q (words * ring.degree)
+pub in_range : (ring : Ring) (words : ℕ) → words ≤ 64
+    → InRange ring.degree ring.modulus (words * ring.degree)
 in_range ring words few = record {
   degree = degree_from_ones ring.degree ring.power ring.most;
-  modulus = record { odd = ring.modulus.odd; at_least = ring.modulus.at_least; below = ring.modulus.below };
+  modulus = ring.is_modulus;
   need_most = omega (arith, mul-le words ring.degree 64 1024 few ring.most);
 }

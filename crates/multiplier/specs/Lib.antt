@@ -1,3 +1,4 @@
+pub mod Rings
 pub mod Multipliers
 pub mod Sums
 pub mod Methods

@@ -1,7 +1,8 @@
 -- The sums that the two multipliers add up in natural numbers, before one reduction modulo q.
-use Rattle.std.specs.Prelude.{◌≡◌, ℕ, zero, suc, ◌+◌, ◌-◌, ◌*◌, ◌%◌, ◌^◌, ◌≤◌, List, map, length, pos, slice_index}
+use Rattle.std.specs.Prelude.{◌≡◌, ℕ, zero, suc, ◌+◌, ◌-◌, ◌*◌, ◌%◌, ◌^◌, ◌≤◌}
+use Rattle.std.specs.Prelude.{List, map, length, pos, slice_index}
 use Rattle.ring.specs.Elements.{AllBelow}
-use Rattle.ring.specs.Residues.{residue}
+use Rattle.ring.specs.Residues.{IsModulus, residue}
 use Rattle.element.specs.Products.{coefficient, at}
 
 -- f 0 + .. + f (m - 1)
@@ -21,8 +22,9 @@ coefficient_mod n q left right k = residue q (coefficient n (at (map pos left)) 
 abbrev pub sum_of_rows : (left words : List ℕ) (m k : ℕ) → ℕ
 sum_of_rows left words m k = nat_sum m (λ i. slice_index left i * slice_index words (length left - i + k))
 
--- two lists of one length, at most 1024, of numbers below q
+-- two lists of one length, at most 1024, of numbers below a modulus q
 pub record AreFactors (q : ℕ) (left right : List ℕ) : Type 0 where
+  pub is_modulus : IsModulus q
   pub short : length left ≤ 1024
   pub long : length right ≡ length left
   pub left_below : AllBelow q left

@@ -1,6 +1,7 @@
 //! A method of multiplication in one ring is a multiplier.
 
 ghost use Rattle.std.specs.Prelude.{◌≡◌, ◌*◌};
+ghost use Rattle.multiplier.specs.Rings.{Ring};
 ghost use Rattle.multiplier.specs.LawProofs.{in_range};
 
 use crate::factors::Factors;
@@ -8,18 +9,27 @@ use crate::method::Method;
 use crate::multiplier::Multiplier;
 use crate::quotient::QuotientRing;
 use ring::{Fault, ScratchGuard};
-use std::marker::PhantomData;
+use std::marker::{Model, PhantomData};
 
-/// Multiplies elements of a ring by the method M.
+/// Multiplies elements of a ring by the method M. Clauses know it as its ring.
 #[derive(Clone, Copy)]
 pub struct InRing<M> {
     ring: QuotientRing,
     method: PhantomData<M>,
 }
 
+impl<M> Model for InRing<M> {
+    ghost Value = { Ring };
+
+    ghost view = { λ a. a.ring };
+
+    ghost inverse = { λ ring. record { ring = ring; method = record {} } };
+}
+
 impl<M> InRing<M> {
+    /// The multiplier of this ring.
     pub fn new(ring: QuotientRing) -> Self
-        ensures { result.ring ≡ ring }
+        ensures { result ≡ ring }
     {
         InRing {
             ring,
@@ -29,13 +39,13 @@ impl<M> InRing<M> {
 }
 
 impl<M: Method> Multiplier for InRing<M> {
-    ghost n = { λ m. m.ring.degree };
+    ghost n = { λ ring. ring.degree };
 
-    ghost q = { λ m. m.ring.modulus.q };
+    ghost q = { λ ring. ring.modulus };
 
-    ghost need = { λ m. M.WORDS * m.ring.degree };
+    ghost need = { λ ring. M.WORDS * ring.degree };
 
-    ghost lawful = { λ m. in_range m.ring M.WORDS M.few };
+    ghost lawful = { λ ring. in_range ring M.WORDS M.few };
 
     fn degree(&self) -> usize {
         self.ring.degree()
@@ -49,7 +59,7 @@ impl<M: Method> Multiplier for InRing<M> {
         M::WORDS * self.ring.degree()
     }
 
-    #[tactic(auto, using(crate::proofs::Refusals::outcome_means, crate::proofs::Written::product_is_element))]
+    #[tactic(auto, using(crate::proofs::Refusals::outcome_steps))]
     fn multiply(
         &mut self,
         left: &[u32],

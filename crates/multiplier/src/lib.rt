@@ -2,7 +2,6 @@
 
 #![tactic(auto)]
 
-mod checks;
 mod factors;
 mod in_ring;
 mod method;
@@ -11,9 +10,10 @@ mod quotient;
 mod row_sum;
 mod rows;
 mod schoolbook;
+mod theorems;
 
-pub use checks::multiply_refuses_the_first;
 pub use multiplier::Multiplier;
 pub use quotient::QuotientRing;
 pub use row_sum::RowSum;
 pub use schoolbook::Schoolbook;
+pub use theorems::multiply_refuses_the_first;

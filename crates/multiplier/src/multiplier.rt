@@ -19,16 +19,20 @@ pub trait Multiplier: Drop {
     // how many words of scratch a product needs
     ghost need: { Self → ℕ };
 
+    /// The degree n of the ring, which is how many coefficients an element has.
     fn degree(&self) -> usize
         ensures { result ≡ n self.now };
 
+    /// The modulus q of the ring, below which the coefficients are.
     fn modulus(&self) -> u32
         ensures { result ≡ q self.now };
 
+    /// How many words of scratch a product needs, at most 65536.
     fn scratch_words(&self) -> usize
         ensures { result ≡ need self.now };
 
-    /// Writes the product of two elements, or refuses and leaves the output as it was. Scratch is zero afterwards.
+    /// Writes the product of two elements, coefficient 0 first, or refuses and leaves the output
+    /// as it was. Scratch may be longer than the need; all of it is zero afterwards.
     fn multiply(
         &mut self,
         left: &[u32],
@@ -36,11 +40,13 @@ pub trait Multiplier: Drop {
         scratch: &mut [u32],
         output: &mut [u32],
     ) -> Result<(), Fault>
-        ensures outcome { result ≡ multiply_outcome (n self.old) (q self.old) (need self.old) left.now right.now
-            (length scratch.old) (length output.old) }
-        ensures means { MultiplyMeans (n self.old) (q self.old) (need self.old) left.now right.now
-            (length scratch.old) (length output.old) result }
-        ensures writes { output.new ≡ after result (product (n self.old) (q self.old) left.now right.now) output.old }
+        ensures outcome { result
+            ≡ multiply_outcome (n self.old) (q self.old) (need self.old)
+            left.now right.now (length scratch.old) (length output.old) }
+        ensures means { MultiplyMeans (n self.old) (q self.old) (need self.old)
+            left.now right.now (length scratch.old) (length output.old) result }
+        ensures writes { output.new
+            ≡ after result (product (n self.old) (q self.old) left.now right.now) output.old }
         ensures element { OnOk result (IsElement (n self.old) (q self.old) output.new) }
         ensures clears { scratch.new ≡ zeroed scratch.old }
         ensures same_degree { n self.new ≡ n self.old }

@@ -1,7 +1,8 @@
 //! The schoolbook product: for each coefficient in turn its sum.
 
-ghost use Rattle.std.specs.Prelude.{◌≡◌, ◌*◌, ◌^◌, ◌<◌, length, reverse, sum_by, zip};
-ghost use Rattle.multiplier.specs.Methods.{coefficient_of, product_of};
+ghost use Rattle.std.specs.Prelude.{◌≡◌, ◌*◌, ◌^◌, ◌<◌, reverse, sum_by, zip};
+ghost use Rattle.std.proofs.Common.{arith};
+ghost use Rattle.multiplier.specs.Methods.{coefficient_of, size_of};
 
 use crate::factors::Factors;
 use crate::in_ring::InRing;
@@ -25,26 +26,24 @@ fn reversed_dot(left: &[u32], right: &[u32]) -> u64
         .sum()
 }
 
-impl Factors<'_> {
-    /// The coefficient k of the product: the pairs with i + j = k, less those with i + j = k + n.
-    #[tactic(auto, using(crate::proofs::ReversedDots::difference_of_parts))]
-    fn coefficient(self, k: usize) -> u32
-        requires { k < length self.left.now }
-        ensures { result ≡ coefficient_of self.entry k }
-    {
-        let Factors {
-            left,
-            right,
-            modulus,
-        } = self;
-        let n = left.len();
-        let q = u64::from(modulus.value());
-        let plus = reversed_dot(&left[..=k], &right[..=k]);
-        let minus = reversed_dot(&left[k + 1..], &right[k + 1..]);
-        // a multiple of q that is no less than minus
-        let lift = n as u64 * q * q;
-        ((plus + lift - minus) % q) as u32
-    }
+/// The coefficient k of the product: the pairs with i + j = k, less those with i + j = k + n.
+#[tactic(auto, using(crate::proofs::ReversedDots::difference_of_parts))]
+fn coefficient(factors: Factors<'_>, k: usize) -> u32
+    requires { k < size_of factors }
+    ensures { result ≡ coefficient_of factors.entry k }
+{
+    let Factors {
+        left,
+        right,
+        modulus,
+    } = factors;
+    let n = left.len();
+    let q = u64::from(modulus);
+    let plus = reversed_dot(&left[..=k], &right[..=k]);
+    let minus = reversed_dot(&left[k + 1..], &right[k + 1..]);
+    // a multiple of q that is no less than minus
+    let lift = n as u64 * q * q;
+    ((plus + lift - minus) % q) as u32
 }
 
 impl Method for ByCoefficient {
@@ -52,14 +51,12 @@ impl Method for ByCoefficient {
 
     const WORDS: usize = 0;
 
-    ghost use Rattle.std.proofs.Common.{arith};
-
     ghost few = { Prim.omega arith };
 
     #[tactic(auto, using(crate::proofs::Written::written))]
     fn write_product(factors: Factors<'_>, _words: &mut [u32], output: &mut [u32]) {
-        for (k, coefficient) in output.iter_mut().enumerate() {
-            *coefficient = factors.coefficient(k);
+        for (k, place) in output.iter_mut().enumerate() {
+            *place = coefficient(factors, k);
         }
     }
 }
