@@ -7,11 +7,15 @@ use Rattle.std.proofs.lemmas.Nat.{le_or_l, le_or_r}
 use Rattle.std.specs.Prelude.{All}
 use Rattle.std.proofs.lemmas.Bool.{cases_lt}
 use Rattle.std.proofs.lemmas.List.Sums.{prefix_len-le-length}
-use Rattle.ring.proofs.Elements.{all_below_reaches}
-use Rattle.packing.specs.Packing.{AllFit, front_fitting}
+use Rattle.ring.specs.Elements.{first_not_below}
+use Rattle.ring.proofs.Elements.{all_below, all_below_reaches, is_first_not_below}
+use Rattle.packing.specs.Packing.{AllFit}
+
+-- what the first place that does not fit says of the numbers
+pub ruleset where_it_stops = (all_below, is_first_not_below)
 
 -- numbers that are all at most one that fits
-pub front_is_whole : (w : ℕ) (xs : List ℕ) (most : ℕ) → All (λ x. x ≤ most) xs → most < 2 ^ w → length xs ≡ front_fitting w xs
+pub front_is_whole : (w : ℕ) (xs : List ℕ) (most : ℕ) → All (λ x. x ≤ most) xs → most < 2 ^ w → length xs ≡ first_not_below (2 ^ w) xs
 front_is_whole w xs most within fits =
     let fit : AllFit w xs = λ k d inside. omega (arith, within k d inside) in
     omega (arith, all_below_reaches (2 ^ w) xs fit, prefix_len-le-length (λ x. ltb x (2 ^ w)) xs)

@@ -1,9 +1,9 @@
--- What the answers of packing and unpacking mean, and that what is right is accepted.
-use Rattle.std.proofs.Common.{ℕ, ◌^◌, eqb, leb, List, length, refl, ◌∙◌}
-use Rattle.std.proofs.lemmas.Bool.{cond-true, cond_both, leb-true, leb-false, eq-eqb, eqb-true, eqb-false}
-use Rattle.ring.proofs.Elements.{all_below, is_first_not_below, all_below_passes}
+-- What the outcomes of packing and unpacking mean, and that what is right is accepted.
+use Rattle.std.proofs.Common.{ℕ, ◌^◌, eqb, List, length, refl, ◌∙◌}
+use Rattle.std.proofs.lemmas.Bool.{cond-true, cond_both, eq-eqb, eqb-true, eqb-false}
+use Rattle.ring.proofs.Elements.{all_below_passes, fits_or_first}
 use Rattle.packing.specs.Lengths.{packed_length}
-use Rattle.packing.specs.Packing.{front_fitting, pack_outcome, pack_numbers_outcome, unpack_outcome}
+use Rattle.packing.specs.Packing.{pack_outcome, pack_numbers_outcome, unpack_outcome}
 use Rattle.packing.specs.Refusals.{PackMeans, PackNumbersMeans, PackingRefusals, PackingRefusesTheFirst, UnpackMeans}
 
 module _ (w : ℕ) where
@@ -17,9 +17,9 @@ module _ (w : ℕ) where
   pack_numbers_means xs room =
       cond_both (eqb room (packed_length (length xs) w)) _ _ (PackNumbersMeans w xs room)
       (λ same.
-      cond_both (leb (length xs) (front_fitting w xs)) _ _ (PackNumbersMeans w xs room)
-      (λ whole. (eqb-true _ _ same, all_below (2 ^ w) xs (leb-true _ _ whole)))
-      (λ stops. (eqb-true _ _ same, is_first_not_below (2 ^ w) xs (leb-false _ _ stops))))
+      fits_or_first (length xs) (2 ^ w) xs refl (PackNumbersMeans w xs room) _ _
+      (λ fit. (eqb-true _ _ same, fit))
+      (λ first. (eqb-true _ _ same, first)))
       (λ other. (eqb-false _ _ other, refl))
 
   pub unpack_means : (bytes : List ℕ) (many : ℕ) → UnpackMeans w bytes many (unpack_outcome w bytes many)

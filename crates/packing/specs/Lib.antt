@@ -1,3 +1,4 @@
+pub mod Fields
 pub mod Lengths
 pub mod Packing
 pub mod PackingLaws

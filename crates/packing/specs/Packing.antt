@@ -5,6 +5,7 @@ use Rattle.ring.specs.Elements.{AllBelow, first_not_below}
 use Rattle.ring.specs.Faults.{checked}
 use Rattle.ring.specs.declared.fault.Fault.{Fault}
 use Rattle.ring.specs.declared.fault.Fault.TheVariants.{WrongLength, OutOfRange}
+use Rattle.ring.specs.declared.place.TheConstants.{BYTES, OUTPUT}
 use Rattle.packing.specs.Lengths.{packed_length}
 
 -- what digits of w bits stand for, the lowest digit first
@@ -29,21 +30,17 @@ unpacked w many bytes = digits w many (number 8 bytes)
 abbrev pub AllFit : (w : ℕ) → List ℕ → Type 0
 AllFit w xs = AllBelow (2 ^ w) xs
 
--- how many come before the first that has more than w bits
-abbrev pub front_fitting : (w : ℕ) → List ℕ → ℕ
-front_fitting w xs = first_not_below (2 ^ w) xs
-
 -- packing numbers of w bits into so much room
 abbrev pub pack_outcome : (w : ℕ) → List ℕ → (room : ℕ) → Result (Unit {0}) Fault
-pack_outcome w xs room = checked (room == packed_length (length xs) w) (WrongLength 4) (Ok tt)
+pack_outcome w xs room = checked (room == packed_length (length xs) w) (WrongLength OUTPUT) (Ok tt)
 
 -- unpacking so many numbers
 abbrev pub unpack_outcome : (w : ℕ) → List ℕ → (many : ℕ) → Result (Unit {0}) Fault
-unpack_outcome w bytes many = checked (length bytes == packed_length many w) (WrongLength 1) (Ok tt)
+unpack_outcome w bytes many = checked (length bytes == packed_length many w) (WrongLength BYTES) (Ok tt)
 
 -- packing numbers that may have more than w bits, into so much room
 abbrev pub pack_numbers_outcome : (w : ℕ) → List ℕ → (room : ℕ) → Result (Unit {0}) Fault
 pack_numbers_outcome w xs room =
-    checked (room == packed_length (length xs) w) (WrongLength 4)
-    (checked (nat_le (length xs) (front_fitting w xs)) (OutOfRange (front_fitting w xs))
+    checked (room == packed_length (length xs) w) (WrongLength OUTPUT)
+    (checked (nat_le (length xs) (first_not_below (2 ^ w) xs)) (OutOfRange (first_not_below (2 ^ w) xs))
     (Ok tt))

@@ -18,13 +18,20 @@ pub record PackingLaws (w : ℕ) : Type 0 where
   pub enough_bytes : (many : ℕ) → many * w ≤ packed_length many w * 8
   pub no_byte_more : (many : ℕ) → packed_length many w * 8 < many * w + 8
   -- number i is at the bits i w .. i w + w - 1
-  pub in_place : (xs : List ℕ) (i k : ℕ) → AllFit w xs → i < length xs → k < w → bit_of (packed w xs) (i * w + k) ≡ bit_at (slice_index xs i) k
+  pub in_place :
+      (xs : List ℕ) (i k : ℕ) → AllFit w xs → i < length xs → k < w →
+      bit_of (packed w xs) (i * w + k) ≡ bit_at (slice_index xs i) k
   -- and nothing is after them
   pub spare_clear : (xs : List ℕ) → AllFit w xs → SpareClear w (length xs) (packed w xs)
   -- unpacking takes number i from these bits, of whatever bytes
-  pub read_in_place : (many : ℕ) (bytes : List ℕ) (i k : ℕ) → AllFit 8 bytes → i < many → k < w → bit_at (slice_index (unpacked w many bytes) i) k ≡ bit_of bytes (i * w + k)
+  pub read_in_place :
+      (many : ℕ) (bytes : List ℕ) (i k : ℕ) → AllFit 8 bytes → i < many → k < w →
+      bit_at (slice_index (unpacked w many bytes) i) k ≡ bit_of bytes (i * w + k)
   pub unpacks_what_was_packed : (xs : List ℕ) → AllFit w xs → unpacked w (length xs) (packed w xs) ≡ xs
-  pub packs_what_was_unpacked : (many : ℕ) (bytes : List ℕ) → AllFit 8 bytes → length bytes ≡ packed_length many w → SpareClear w many bytes → packed w (unpacked w many bytes) ≡ bytes
+  pub packs_what_was_unpacked :
+      (many : ℕ) (bytes : List ℕ) →
+      AllFit 8 bytes → length bytes ≡ packed_length many w → SpareClear w many bytes →
+      packed w (unpacked w many bytes) ≡ bytes
 
 -- for every width
 abbrev pub PackingIsLawful : Type 0

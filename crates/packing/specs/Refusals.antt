@@ -1,16 +1,17 @@
--- What each answer of packing and unpacking says of what was handed in, and which answers there are not.
+-- What each outcome of packing and unpacking says of what was handed in, and which outcomes there are not.
 use Rattle.std.specs.Prelude.{◌≡◌, ◌≢◌, ℕ, ◌^◌, List, length, Ok, Err, Result}
 use Rattle.ring.specs.Elements.{FirstNotBelow}
 use Rattle.ring.specs.declared.fault.Fault.{Fault}
 use Rattle.ring.specs.declared.fault.Fault.TheVariants.{WrongLength, OutOfRange, SumTooLarge}
 use Rattle.ring.specs.declared.fault.Fault.TheVariants.{CoinOutOfRange, SourceSpent}
+use Rattle.ring.specs.declared.place.TheConstants.{BYTES, OUTPUT}
 use Rattle.packing.specs.Lengths.{packed_length}
 use Rattle.packing.specs.Packing.{AllFit, pack_outcome, pack_numbers_outcome, unpack_outcome}
 
 -- packing numbers of w bits into so much room: the room is the list's length
 abbrev pub PackMeans : (w : ℕ) → List ℕ → (room : ℕ) → Result (Unit {0}) Fault → Type 0
 PackMeans w xs room (Ok _) = room ≡ packed_length (length xs) w
-PackMeans w xs room (Err (WrongLength place)) = (room ≢ packed_length (length xs) w) × (place ≡ 4)
+PackMeans w xs room (Err (WrongLength place)) = (room ≢ packed_length (length xs) w) × (place ≡ OUTPUT)
 PackMeans w xs room (Err (OutOfRange i)) = ⊥
 PackMeans w xs room (Err (SumTooLarge i)) = ⊥
 PackMeans w xs room (Err (CoinOutOfRange i)) = ⊥
@@ -19,7 +20,8 @@ PackMeans w xs room (Err (SourceSpent i)) = ⊥
 -- packing numbers that may have more than w bits: the room first, then each number
 abbrev pub PackNumbersMeans : (w : ℕ) → List ℕ → (room : ℕ) → Result (Unit {0}) Fault → Type 0
 PackNumbersMeans w xs room (Ok _) = (room ≡ packed_length (length xs) w) × AllFit w xs
-PackNumbersMeans w xs room (Err (WrongLength place)) = (room ≢ packed_length (length xs) w) × (place ≡ 4)
+PackNumbersMeans w xs room (Err (WrongLength place)) =
+    (room ≢ packed_length (length xs) w) × (place ≡ OUTPUT)
 PackNumbersMeans w xs room (Err (OutOfRange i)) =
     (room ≡ packed_length (length xs) w) × FirstNotBelow (2 ^ w) xs i
 PackNumbersMeans w xs room (Err (SumTooLarge i)) = ⊥
@@ -29,7 +31,7 @@ PackNumbersMeans w xs room (Err (SourceSpent i)) = ⊥
 -- unpacking so many numbers: the bytes are theirs
 abbrev pub UnpackMeans : (w : ℕ) → List ℕ → (many : ℕ) → Result (Unit {0}) Fault → Type 0
 UnpackMeans w bytes many (Ok _) = length bytes ≡ packed_length many w
-UnpackMeans w bytes many (Err (WrongLength place)) = (length bytes ≢ packed_length many w) × (place ≡ 1)
+UnpackMeans w bytes many (Err (WrongLength place)) = (length bytes ≢ packed_length many w) × (place ≡ BYTES)
 UnpackMeans w bytes many (Err (OutOfRange i)) = ⊥
 UnpackMeans w bytes many (Err (SumTooLarge i)) = ⊥
 UnpackMeans w bytes many (Err (CoinOutOfRange i)) = ⊥

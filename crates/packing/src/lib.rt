@@ -3,7 +3,6 @@
 #![tactic(auto)]
 
 mod fields;
-mod lengths;
 mod pack;
 mod theorems;
 mod unpack;

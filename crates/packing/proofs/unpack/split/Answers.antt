@@ -6,8 +6,8 @@ use Rattle.packing.proofs.unpack.split.Goals as goal
 pub returns : goal.returns
 returns c =
     let n = length c.args.numbers.now in
-    let w = c.args.width.bits in
+    let w = c.args.bits in
     let low_long : length c.split_at_mut-low.result.0.now ≡ min n 4 = c.split_at_mut-low.ensures.front_len ∙ c.min-middle.ensures in
     let high_long : length c.split_at_mut-low.result.1.now ≡ n - min n 4 = omega (arith, c.split_at_mut-low.ensures.back_len, c.min-middle.ensures) in
-    halves_split w c.args.joined n c.split_word.new.numbers c.split_word-2.new.numbers c.args.width.at_most c.requires
+    halves_split w c.args.joined n c.split_word.new.numbers c.split_word-2.new.numbers c.requires.narrow c.requires.few
     (c.split_word.ensures ∙ (λ j. digits w (low_long j) (c.low_word.ensures j))) (c.split_word-2.ensures ∙ (λ j. digits w (high_long j) (c.low_word-2.ensures j)))

@@ -5,13 +5,13 @@ use Rattle.packing.proofs.Splitting.{none_split, low_bits, split_more, rest_more
 use Rattle.packing.proofs.unpack.split_word.Goals as goal
 
 pub loop-number-init : goal.loop-number-init
-loop-number-init c = (refl, none_split c.args.width.bits c.args.word)
+loop-number-init c = (refl, none_split c.args.bits c.args.word)
 
 pub loop-number-preserved : goal.loop-number-preserved
 loop-number-preserved c =
-    let w = c.args.width.bits in
+    let w = c.args.bits in
     let x = c.args.word in (
-      split_more w x c.loop-number.numbers c.loop-number.number-index c.loop-number.rest _ (omega arith) c.loop-number.invariant.1 (low_bits w c.loop-number.rest c.args.width.at_most) c.loop-number.invariant.0,
+      split_more w x c.loop-number.numbers c.loop-number.number-index c.loop-number.rest _ (omega arith) c.loop-number.invariant.1 (low_bits w c.loop-number.rest c.requires.narrow) c.loop-number.invariant.0,
       rest_more w x c.loop-number.number-index c.loop-number.rest c.loop-number.invariant.1,
     )
 
@@ -20,4 +20,4 @@ returns c =
     let all : c.loop-number.number-index ≡ length c.args.numbers.now = omega (arith, c.loop-number.auto.number-index-end) in
     sym (take_all c.loop-number.number-index c.loop-number.numbers (omega (arith, c.loop-number.auto.numbers)))
     ∙ c.loop-number.invariant.0
-    ∙ ap (λ n. digits c.args.width.bits n c.args.word) all
+    ∙ ap (λ n. digits c.args.bits n c.args.word) all

@@ -6,6 +6,6 @@ use Rattle.packing.proofs.unpack.unpack_eight.Goals as goal
 
 pub returns : goal.returns
 returns c =
-    let few = few_bytes (length c.args.numbers.now) c.args.width.bits c.requires.few c.args.width.at_most in
+    let few = few_bytes (length c.args.numbers.now) c.args.bits c.requires.few c.requires.narrow in
     c.split.ensures
-    ∙ ap (digits c.args.width.bits (length c.args.numbers.now)) (c.from_le_bytes.ensures ∙ block_number c.args.bytes.now _ c.copy_from_slice.ensures.after (omega (arith, few, c.requires.long)))
+    ∙ ap (digits c.args.bits (length c.args.numbers.now)) (c.from_le_bytes.ensures ∙ block_number c.args.bytes.now _ c.copy_from_slice.ensures.after (omega (arith, few, c.requires.long)))

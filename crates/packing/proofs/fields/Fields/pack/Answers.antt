@@ -1,45 +1,9 @@
-use Rattle.std.proofs.Common.{◌∙◌, ap, length, arith, rules}
-use Rattle.std.proofs.lemmas.List.{places}
-use Rattle.std.proofs.Math.Nat.{add-mul}
-use Rattle.packing.proofs.Eights.{eight_fits, eight_inside, eights_more, rest_inside, rest_room, all_packed}
+use Rattle.std.proofs.Common.{◌∙◌, ap, length, rules}
 use Rattle.packing.specs.Packing.{unpacked}
 use Rattle.packing.proofs.Laws.{unpacks_what_was_packed}
 use Rattle.packing.proofs.fields.Fields.pack.Goals as goal
 
-pub loop-i-preserved : goal.loop-i-preserved
-loop-i-preserved c =
-    eights_more c.args.self.width.bits c.args.self.numbers.now _ c.loop-i.i c.args.self.fit c.as_chunks.ensures.front (omega arith)
-    c.loop-i.output _ (omega (arith, add-mul c.loop-i.i 1 c.args.self.width.bits, eight_inside c.args.self.width.bits c.args.self.numbers.now _ c.loop-i.i c.args.self.fit c.as_chunks.ensures.front (omega arith) (length c.loop-i.output) (omega arith))) c.pack_eight.ensures c.loop-i.invariant
-
-pub slice_bounds-pack_eight-count-2 : goal.slice_bounds-pack_eight-count-2
-slice_bounds-pack_eight-count-2 c =
-    rest_inside c.args.self.width.bits c.args.self.numbers.now c.as_chunks.result.1.now _ c.loop-i.output c.args.self.fit c.as_chunks.ensures.front_len c.as_chunks.ensures.back (omega arith)
-
-pub pack_eight-requires-2-clause-long : goal.pack_eight-requires-2-clause-long
-pack_eight-requires-2-clause-long c =
-    let room = rest_room c.args.self.width.bits c.args.self.numbers.now c.as_chunks.result.1.now _ c.loop-i.output c.args.self.fit c.as_chunks.ensures.front_len c.as_chunks.ensures.back (omega arith) in
-    search (rules, places)
-
-pub returns-clause-writes : goal.returns-clause-writes
-returns-clause-writes c =
-    all_packed c.args.self.width.bits c.args.self.numbers.now c.as_chunks.result.1.now _ c.loop-i.output c.args.self.fit c.as_chunks.ensures.front_len c.as_chunks.ensures.back (omega arith)
-    c.loop-i.i _ (omega arith) c.pack_eight-2.ensures c.loop-i.invariant
-
-pub slice_bounds-pack_eight-end-in-loop-i : goal.slice_bounds-pack_eight-end-in-loop-i
-slice_bounds-pack_eight-end-in-loop-i c =
-    let inside = eight_inside c.args.self.width.bits c.args.self.numbers.now _ c.loop-i.i c.args.self.fit c.as_chunks.ensures.front (omega arith) (length c.loop-i.output) (omega arith) in
-    omega (arith, inside)
-
-pub pack_eight-requires-clause-fit : goal.pack_eight-requires-clause-fit
-pack_eight-requires-clause-fit c =
-    eight_fits c.args.self.width.bits c.args.self.numbers.now _ c.loop-i.i c.args.self.fit c.as_chunks.ensures.front (omega arith)
-
-pub slice_bounds-pack_eight-start-2 : goal.slice_bounds-pack_eight-start-2
-slice_bounds-pack_eight-start-2 c =
-    let inside = rest_inside c.args.self.width.bits c.args.self.numbers.now c.as_chunks.result.1.now _ c.loop-i.output c.args.self.fit c.as_chunks.ensures.front_len c.as_chunks.ensures.back (omega arith) in
-    omega (arith, inside)
-
 pub returns-clause-unpacks_back : goal.returns-clause-unpacks_back
 returns-clause-unpacks_back c =
-    ap (unpacked c.args.self.width.bits (length c.args.self.numbers.now)) (returns-clause-writes c)
-    ∙ unpacks_what_was_packed c.args.self.width.bits c.args.self.numbers.now c.args.self.fit
+    ap (unpacked c.args.self.width (length c.args.self.numbers)) (search rules)
+    ∙ unpacks_what_was_packed c.args.self.width c.args.self.numbers (search rules)

@@ -1,6 +1,6 @@
 use Rattle.std.proofs.Common.{arith}
 use Rattle.packing.proofs.Fitting.{none_within, one_more_within}
-use Rattle.packing.proofs.pack.union.Goals as goal
+use Rattle.packing.proofs.fields.union.Goals as goal
 
 pub loop-x-init : goal.loop-x-init
 loop-x-init c = none_within _ _
