@@ -3,7 +3,7 @@
 use std::fmt;
 
 /// A fault, as it is reported.
-#[derive(Clone, Copy, PartialEq, Eq, Debug)]
+#[derive(Clone, Copy, PartialEq)]
 pub struct Refusal {
     layer: u8,
     number: u8,
