@@ -1,4 +1,4 @@
--- How far a list keeps within a bound: one step of the running sum, what a front that is the whole list says, and what one that ends before it.
+-- Where a list first passes a bound: one step of the running sum, what no such place says, what such a place says, and what filling a place means.
 use Rattle.std.proofs.Common.{inl, inr, Ok, ◌≡◌, ℕ, suc, ◌+◌, ◌<◌, ◌≤◌, eqb, leb, List, [], ◌∷◌, length, get_or, take, drop, ℤ, pos, nat_abs, sum_by, sym, refl, ◌∙◌, subst, ⊎_elim, add-one, one-add, arith}
 use Rattle.std.specs.Prelude.{All}
 use Rattle.std.proofs.lemmas.List.{at_drop_more, at_drop_all}
@@ -17,8 +17,6 @@ module _ (xs : List ℤ) (i sum l : ℕ) where
 
   pub summing_end : length xs ≤ i → first_past sum l (drop i xs) ≡ 0
   summing_end h = at_drop_all (first_past sum l) xs i h
-
-pub ruleset summing_steps = (summing_more, summing_stop, summing_end)
 
 -- ---- a front that is the whole list
 
@@ -102,6 +100,8 @@ none_or_first_past l xs =
     (λ (shorter : first_past 0 l xs < length xs). inr (summing_first l xs shorter))
     (λ (whole : length xs ≤ first_past 0 l xs). inl (omega (arith, summing_most 0 l xs), omega (arith, sum_within 0 l xs (omega arith) whole)))
     (cases_lt (first_past 0 l xs) (length xs))
+
+pub ruleset past_steps = (summing_more, summing_stop, summing_end, none_or_first_past)
 
 pub fill_means : (b : Bounds) (xs : List ℤ) → FillMeans b xs (fill_outcome b xs)
 fill_means b xs =

@@ -1,5 +1,6 @@
 -- What a profile is: its numbers, its functions, and the laws that generic code may use.
-use Rattle.std.specs.Prelude.{◌≡◌, ℕ, ◌+◌, ◌-◌, ◌*◌, ◌%◌, ◌^◌, ◌<◌, ◌≤◌, ◌&&◌, ◌⊎◌, ℤ, pos, ◌+ℤ◌, ◌-ℤ◌, ◌==◌, unsigned_abs}
+use Rattle.std.specs.Prelude.{◌≡◌, ℕ, ◌+◌, ◌-◌, ◌*◌, ◌%◌, ◌^◌, ◌<◌, ◌≤◌, ◌&&◌, ◌⊎◌, ◌==◌}
+use Rattle.std.specs.Prelude.{ℤ, pos, ◌+ℤ◌, ◌-ℤ◌, unsigned_abs}
 use Rattle.ring.specs.Residues.{residue}
 use Rattle.profile.specs.Counts.{count}
 use Rattle.profile.specs.declared.numbers.Numbers.{Numbers}
@@ -46,13 +47,20 @@ abbrev pub key_count : (signal key_bit : ℕ → ℕ → ℕ) → (q coin v bit 
 key_count signal key_bit q coin v bit = count (λ x. (signal x coin == v) && key_bit x coin == bit) q
 
 module _ (q coins : ℕ) (signal key_bit : ℕ → ℕ → ℕ) where
-  -- what is read d away from x, with the signal of x, is the key bit of x, for each multiple d of step of size at most tau
+  -- what is read d away from x, with the signal of x, is the key bit of x, for each multiple d of step of
+  -- size at most tau
   abbrev pub ReadsWithin : ℕ → ℕ → (ℕ → ℕ → ℕ) → Type 0
-  ReadsWithin step tau read = (x coin : ℕ) (d : ℤ) → x < q → coin < coins → MultipleWithin step tau d → read (residue q (pos x +ℤ d)) (signal x coin) ≡ key_bit x coin
+  ReadsWithin step tau read =
+      (x coin : ℕ) (d : ℤ) → x < q → coin < coins → MultipleWithin step tau d
+      → read (residue q (pos x +ℤ d)) (signal x coin) ≡ key_bit x coin
 
-  -- for each coin and signal, the residues with key bit 0 and those with key bit 1 differ in number by at most one
+  -- for each coin and signal, the residues with key bit 0 and those with key bit 1 differ in number by at
+  -- most one
   abbrev pub Balanced : ℕ → Type 0
-  Balanced width = (coin v : ℕ) → coin < coins → v < 2 ^ width → (key_count signal key_bit q coin v 0 ≤ key_count signal key_bit q coin v 1 + 1) × (key_count signal key_bit q coin v 1 ≤ key_count signal key_bit q coin v 0 + 1)
+  Balanced width =
+      (coin v : ℕ) → coin < coins → v < 2 ^ width
+      → (key_count signal key_bit q coin v 0 ≤ key_count signal key_bit q coin v 1 + 1)
+      × (key_count signal key_bit q coin v 1 ≤ key_count signal key_bit q coin v 0 + 1)
 
 pub record Lawful (k : Numbers) (f : Functions) : Type 0 where
   pub in_range : InRange k

@@ -1,4 +1,4 @@
--- What each answer of a profile's functions says of what was handed in, and which answers there are not.
+-- What each outcome of a profile's functions says of what was handed in, and which outcomes there are not.
 use Rattle.std.specs.Prelude.{◌≡◌, ℕ, ◌+◌, ◌^◌, ◌<◌, ◌≤◌, ◌⊎◌, Ok, Err, Result}
 use Rattle.ring.specs.declared.fault.Fault.{Fault}
 use Rattle.ring.specs.declared.fault.Fault.TheVariants.{WrongLength, OutOfRange, SumTooLarge}
@@ -52,7 +52,8 @@ pub record FunctionLaws (k : Numbers) (f : Functions) : Type 0 where
       (x coin : ℕ) → x < k.q → coin < k.coins →
       reconcile_outcome k f x coin ≡ Ok (f.signal x coin, f.key_bit x coin)
   pub reads :
-      (y signal : ℕ) → y < k.q → signal < 2 ^ k.signal_width → read_outcome k f y signal ≡ Ok (f.read y signal)
+      (y signal : ℕ) → y < k.q → signal < 2 ^ k.signal_width →
+      read_outcome k f y signal ≡ Ok (f.read y signal)
 
 -- for all numbers and functions
 abbrev pub FunctionsRefuseTheFirst : Type 0

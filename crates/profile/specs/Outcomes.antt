@@ -1,4 +1,5 @@
--- What the four functions of a profile answer, for every argument. Faults are tried in the order that the tests have here.
+-- The outcomes of the four functions of a profile, for every argument. Faults are tried in the order that
+-- the tests have here.
 use Rattle.std.specs.Prelude.{ℕ, ◌^◌, Ok, Result, nat_le, nat_lt}
 use Rattle.ring.specs.Faults.{checked}
 use Rattle.ring.specs.declared.fault.Fault.{Fault}

@@ -1,11 +1,15 @@
--- What a secret is, and what a place for one answers and holds.
-use Rattle.std.specs.Prelude.{◌≡◌, ℕ, ◌+◌, ◌<◌, ◌≤◌, leb, List, [], ◌∷◌, length, take, replicate, ℤ, pos, Some, None, Ok, Err, sum_by, Option, Result, ◌==◌, ◌≢◌, nat_le, slice_index_or, unsigned_abs, if◌then◌else◌, All}
+-- What a secret is, what comes of filling a place for one, and what the place holds.
+use Rattle.std.specs.Prelude.{◌≡◌, ◌≢◌, ℕ, ◌+◌, ◌<◌, ◌≤◌, ◌==◌, leb}
+use Rattle.std.specs.Prelude.{nat_le, if◌then◌else◌, Some, None, Ok, Err, Option, Result}
+use Rattle.std.specs.Prelude.{List, [], ◌∷◌, length, take, replicate}
+use Rattle.std.specs.Prelude.{slice_index_or, All, sum_by, ℤ, pos, unsigned_abs}
 use Rattle.std.specs.Borrow.{Bor}
 use Rattle.std.specs.List.{prefix_len}
 use Rattle.ring.specs.Elements.{NoneOrFirst}
 use Rattle.ring.specs.Faults.{checked}
 use Rattle.ring.specs.declared.fault.Fault.{Fault}
-use Rattle.ring.specs.declared.fault.Fault.TheVariants.{WrongLength, OutOfRange, SumTooLarge, CoinOutOfRange, SourceSpent}
+use Rattle.ring.specs.declared.fault.Fault.TheVariants.{WrongLength, OutOfRange, SumTooLarge}
+use Rattle.ring.specs.declared.fault.Fault.TheVariants.{CoinOutOfRange, SourceSpent}
 use Rattle.ring.specs.declared.place.TheConstants.{COEFFICIENTS}
 use Rattle.profile.specs.declared.bounds.Bounds.{Bounds}
 use Rattle.profile.specs.declared.numbers.Numbers.{Numbers}
@@ -29,7 +33,7 @@ first_past sum l [] = 0
 first_past sum l (x ∷ xs) =
     if nat_le (sum + unsigned_abs x) l then 1 + first_past (sum + unsigned_abs x) l xs else 0
 
--- what a place answers when xs is handed in
+-- the outcome of filling a place with xs
 abbrev pub fill_outcome : Bounds → List ℤ → Result (Unit {0}) Fault
 fill_outcome b xs =
     checked (length xs == b.n) (WrongLength COEFFICIENTS)
@@ -45,7 +49,8 @@ pub record FirstBeyond (e : ℕ) (xs : List ℤ) (i : ℕ) : Type 0 where
 
 -- all are within e, or it is the index of the first that is beyond
 abbrev pub NoneOrFirstBeyond : (e : ℕ) → List ℤ → (place : ℕ) → Type 0
-NoneOrFirstBeyond e xs place = NoneOrFirst (length xs) (All (λ x. unsigned_abs x ≤ e) xs) (FirstBeyond e xs) place
+NoneOrFirstBeyond e xs place =
+    NoneOrFirst (length xs) (All (λ x. unsigned_abs x ≤ e) xs) (FirstBeyond e xs) place
 
 -- i is the index where the running sum of sizes first passes l
 pub record FirstPast (l : ℕ) (xs : List ℤ) (i : ℕ) : Type 0 where
@@ -57,12 +62,14 @@ pub record FirstPast (l : ℕ) (xs : List ℤ) (i : ℕ) : Type 0 where
 abbrev pub NoneOrFirstPast : (l : ℕ) → List ℤ → (place : ℕ) → Type 0
 NoneOrFirstPast l xs place = NoneOrFirst (length xs) (sum_by unsigned_abs xs ≤ l) (FirstPast l xs) place
 
--- what each answer says of the list: that it is a lawful secret, or where it first is not, by length, then size, then sum
+-- what each outcome says of the list: that it is a lawful secret, or where it first is not, by length, then
+-- size, then sum
 abbrev pub FillMeans : Bounds → List ℤ → Result (Unit {0}) Fault → Type 0
 FillMeans b xs (Ok _) = LawfulSecret b xs
 FillMeans b xs (Err (WrongLength place)) = (length xs ≢ b.n) × (place ≡ COEFFICIENTS)
 FillMeans b xs (Err (OutOfRange i)) = (length xs ≡ b.n) × FirstBeyond b.e xs i
-FillMeans b xs (Err (SumTooLarge i)) = (length xs ≡ b.n) × All (λ x. unsigned_abs x ≤ b.e) xs × FirstPast b.l xs i
+FillMeans b xs (Err (SumTooLarge i)) =
+    (length xs ≡ b.n) × All (λ x. unsigned_abs x ≤ b.e) xs × FirstPast b.l xs i
 FillMeans b xs (Err (CoinOutOfRange i)) = ⊥
 FillMeans b xs (Err (SourceSpent i)) = ⊥
 
@@ -82,7 +89,8 @@ shown None = None
 abbrev pub zeros : ℕ → List ℤ
 zeros n = replicate n (pos 0)
 
--- what a place is at every moment: unfilled, with n words of 0, or holding a lawful secret, which is its n words
+-- what a place is at every moment: unfilled, with n words of 0, or holding a lawful secret, which is its n
+-- words
 pub record UnfilledOrLawful (b : Bounds) (held : Option (List ℤ)) (words : List ℤ) : Type 0 where
   pub unfilled : held ≡ None → words ≡ zeros b.n
   pub lawful : (xs : List ℤ) → held ≡ Some xs → LawfulSecret b xs

@@ -16,7 +16,8 @@ pub fn first_error_beyond<P: Profile>(errors: &[i32]) -> usize
     first_beyond(errors, P::NUMBERS.e)
 }
 
-/// The index of the first coin that is not below the coin count; where there is none, how many coins there are.
+/// The index of the first coin that is not below the coin count; where there is none, how many
+/// coins there are.
 #[tactic(auto, using(ring::proofs::Elements::none_or_first_not_below))]
 pub fn first_coin_not_below<P: Profile>(coins: &[u8]) -> usize
     ensures value { result ≡ first_not_below P.NUMBERS.coins coins.now }

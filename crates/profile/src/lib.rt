@@ -1,11 +1,10 @@
-//! What a profile is: its numbers, its functions, its laws and its modulus; where a secret of it is held; and how many errors
-//! and coins are in range.
+//! What a profile is: its numbers, its functions, its laws and its modulus; where a secret of it
+//! is held; and where errors and coins are first not lawful.
 
 #![tactic(auto)]
 
 mod bounds;
 mod errors_and_coins;
-mod holding;
 mod memory;
 mod moduli;
 mod numbers;

@@ -1,4 +1,7 @@
-// The numbers that a profile states.
+//! The numbers that a profile states.
+
+/// By their names in docs/PROFILES.md. What they are held to is `InRange`, a part of what makes a
+/// profile lawful.
 #[derive(Clone, Copy, PartialEq, Eq, Debug)]
 pub struct Numbers {
     /// the degree: an element is n residues
@@ -23,6 +26,8 @@ pub struct Numbers {
     pub coins: u32,
     /// the bits of a signal
     pub signal_width: u32,
+    /// the byte of a message's head that stands for the numbers
     pub numbers_byte: u8,
+    /// the byte of a message's head that stands for the reconciler
     pub reconciler_byte: u8,
 }

@@ -1,7 +1,8 @@
 //! What a profile is to generic code.
 
 ghost use Rattle.std.specs.Prelude.{◌≡◌};
-ghost use Rattle.profile.specs.Outcomes.{round_outcome, recover_outcome, reconcile_outcome, read_outcome};
+ghost use Rattle.profile.specs.Outcomes.{round_outcome, recover_outcome};
+ghost use Rattle.profile.specs.Outcomes.{reconcile_outcome, read_outcome};
 ghost use Rattle.profile.specs.Laws.{Functions, Lawful};
 ghost use Rattle.profile.specs.Secrets.{bounds_of};
 ghost use Rattle.profile.specs.declared.numbers.Numbers.{Numbers};
@@ -10,7 +11,8 @@ use crate::numbers::Numbers;
 use crate::secret::SecretPlace;
 use ring::Fault;
 
-/// One choice of numbers with one reconciler. Generic code goes by the laws, and never by which profile it is.
+/// One choice of numbers with one reconciler. Generic code goes by the laws, and never by which
+/// profile it is.
 pub trait Profile {
     /// Where a secret of this profile, and of no other, is held.
     type Secret: SecretPlace<Profile = Self>;

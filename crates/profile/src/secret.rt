@@ -2,14 +2,17 @@
 
 ghost use Rattle.std.specs.Prelude.{◌≡◌, List, length, ℤ, IfOk, Some, None, Option, MatchOption};
 ghost use Rattle.ring.specs.Faults.{after};
-ghost use Rattle.profile.specs.Secrets.{LawfulSecret, FillAcceptsTheLawful, FillRefusesTheFirst, UnfilledOrLawful, fill_outcome, shown, zeros};
+ghost use Rattle.profile.specs.Secrets.{LawfulSecret, UnfilledOrLawful, fill_outcome};
+ghost use Rattle.profile.specs.Secrets.{shown, zeros};
+ghost use Rattle.profile.specs.Secrets.{FillAcceptsTheLawful, FillRefusesTheFirst};
 ghost use Rattle.profile.specs.declared.bounds.Bounds.{Bounds};
 
 use ring::Fault;
 use std::alloc::{AllocError, Global};
 
-/// A place is at every moment unfilled, with all its memory zero, or holds a lawful secret in it. An impl's `drop` is to overwrite
-/// the memory first, of which no clause of a trait can speak: see `Place`.
+/// A place is at every moment unfilled, with all its memory zero, or holds a lawful secret in it.
+/// An impl's `drop` is to overwrite the memory first, of which no clause of a trait can speak: see
+/// `Place`.
 pub trait SecretPlace: Drop {
     /// The profile that the place belongs to.
     type Profile;
@@ -29,7 +32,8 @@ pub trait SecretPlace: Drop {
         ensures unfilled { IfOk result (λ place. held place ≡ None) }
         ensures zeroed { IfOk result (λ place. memory place ≡ zeros bounds.n) };
 
-    /// Takes the coefficients for the secret, in place of what is held; where it refuses, all stays as it was.
+    /// Takes the coefficients for the secret, in place of what is held; where it refuses, all
+    /// stays as it was.
     fn fill(&mut self, coefficients: &[i32]) -> Result<(), Fault>
         ensures outcome { result ≡ fill_outcome bounds coefficients.now }
         ensures holds { held self.new ≡ after result (Some coefficients.now) (held self.old) }
@@ -38,7 +42,9 @@ pub trait SecretPlace: Drop {
     /// What is held, which is lawful.
     fn secret(&self) -> Option<&[i32]>
         ensures shows { shown result ≡ held self.now }
-        ensures lawful { MatchOption result (held self.now ≡ None) (λ xs. LawfulSecret bounds xs.now) };
+        ensures lawful { MatchOption result
+            (held self.now ≡ None)
+            (λ xs. LawfulSecret bounds xs.now) };
 
     /// The memory itself, n words, filled or not.
     fn words(&self) -> &[i32]
@@ -50,10 +56,12 @@ pub trait SecretPlace: Drop {
         ensures unfilled { held self.new ≡ None }
         ensures zeroed { memory self.new ≡ zeros bounds.n };
 
-    ghost unfilled_or_lawful: { (place : Self) → UnfilledOrLawful bounds (held place) (memory place) };
+    ghost unfilled_or_lawful: { (place : Self)
+        → UnfilledOrLawful bounds (held place) (memory place) };
 }
 
-/// Filling accepts exactly the lawful secrets, and refuses any other list at the first place where it is not one.
+/// Filling accepts exactly the lawful secrets, and refuses any other list at the first place where
+/// it is not one.
 pub fn fill_refuses_the_first()
     ensures refuses { FillRefusesTheFirst }
     ensures accepts { FillAcceptsTheLawful }

@@ -7,6 +7,7 @@ use crate::secret::SecretPlace;
 
 /// Holds a secret place while its secret is in use, and erases it once it is let go.
 pub struct SecretGuard<'a, S: SecretPlace> {
+    /// where the secret is held
     pub place: &'a mut S,
 }
 

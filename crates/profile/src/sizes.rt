@@ -1,9 +1,11 @@
 //! Where the coefficients of a list first pass a bound.
 
 ghost use Rattle.std.specs.Prelude.{◌≡◌};
-ghost use Rattle.profile.specs.Secrets.{NoneOrFirstPast, NoneOrFirstBeyond, first_beyond, first_past};
+ghost use Rattle.profile.specs.Secrets.{NoneOrFirstBeyond, NoneOrFirstPast};
+ghost use Rattle.profile.specs.Secrets.{first_beyond, first_past};
 
-/// The index of the first coefficient of a size above `bound`; where there is none, how many there are.
+/// The index of the first coefficient of a size above `bound`; where there is none, how many there
+/// are.
 #[tactic(auto, using(crate::proofs::Secrets::none_or_first_beyond))]
 pub fn first_beyond(coefficients: &[i32], bound: u32) -> usize
     ensures value { result ≡ first_beyond bound coefficients.now }
@@ -15,8 +17,9 @@ pub fn first_beyond(coefficients: &[i32], bound: u32) -> usize
         .count()
 }
 
-/// The index at which the running sum of sizes first passes `limit`; where it does not, how many coefficients there are.
-#[tactic(auto, using(crate::proofs::Secrets::summing_steps, crate::proofs::Secrets::none_or_first_past))]
+/// The index at which the running sum of sizes first passes `limit`; where it does not, how many
+/// coefficients there are.
+#[tactic(auto, using(crate::proofs::Secrets::past_steps))]
 pub fn first_past(coefficients: &[i32], limit: u32) -> usize
     ensures value { result ≡ first_past 0 limit coefficients.now }
     ensures means { NoneOrFirstPast limit coefficients.now result }

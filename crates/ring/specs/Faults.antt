@@ -1,7 +1,9 @@
--- Faults of layer 1, the ring: what is reported of one, its layer, its number and its place; and what tests outcome and leave.
+-- Faults of layer 1, the ring: what is reported of one, its layer, its number and its place. And the
+-- outcomes of calls that try tests one after another, for the faults of any layer.
 use Rattle.std.specs.Prelude.{ℕ, Ok, Err, Result, Some, None, Option, Bool, if◌then◌else◌}
 use Rattle.ring.specs.declared.fault.Fault.{Fault}
-use Rattle.ring.specs.declared.fault.Fault.TheVariants.{WrongLength, OutOfRange, SumTooLarge, CoinOutOfRange, SourceSpent}
+use Rattle.ring.specs.declared.fault.Fault.TheVariants.{WrongLength, OutOfRange, SumTooLarge}
+use Rattle.ring.specs.declared.fault.Fault.TheVariants.{CoinOutOfRange, SourceSpent}
 
 pub record Report : Type 0 where
   pub layer : ℕ
@@ -24,7 +26,7 @@ number_of fault = (report fault).number
 abbrev pub place_of : Fault → ℕ
 place_of fault = (report fault).place
 
--- ---- what a call answers where tests are tried one after another, and what is there after it: for the faults of any layer
+-- ---- outcomes
 
 -- the outcome where a test is passed, and else a refusal with the fault
 abbrev pub checked : {X F : Type 0} → Bool → F → Result X F → Result X F

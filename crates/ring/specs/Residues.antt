@@ -1,9 +1,11 @@
 -- Residues modulo an odd q, and their signed forms.
-use Rattle.std.specs.Prelude.{◌≡◌, ℕ, ◌-◌, ◌/◌, ◌%◌, ◌^◌, ◌<◌, ◌≤◌, ℤ, pos, ◌+ℤ◌, ◌-ℤ◌, ◌*ℤ◌, Ok, Err, Result, nat_le, nat_lt, unsigned_abs, if◌then◌else◌}
+use Rattle.std.specs.Prelude.{◌≡◌, ℕ, ◌-◌, ◌/◌, ◌%◌, ◌^◌, ◌<◌, ◌≤◌, nat_le, nat_lt, if◌then◌else◌}
+use Rattle.std.specs.Prelude.{ℤ, pos, ◌+ℤ◌, ◌-ℤ◌, ◌*ℤ◌, unsigned_abs, Ok, Err, Result}
 use Rattle.std.specs.Int.{int_rem_euclid}
 use Rattle.ring.specs.Faults.{checked}
 use Rattle.ring.specs.declared.fault.Fault.{Fault}
-use Rattle.ring.specs.declared.fault.Fault.TheVariants.{WrongLength, OutOfRange, SumTooLarge, CoinOutOfRange, SourceSpent}
+use Rattle.ring.specs.declared.fault.Fault.TheVariants.{WrongLength, OutOfRange, SumTooLarge}
+use Rattle.ring.specs.declared.fault.Fault.TheVariants.{CoinOutOfRange, SourceSpent}
 
 -- the residue of an integer modulo q, in 0 .. q - 1
 abbrev pub residue : ℕ → ℤ → ℕ
@@ -32,7 +34,8 @@ pub record IsModulus (q : ℕ) : Type 0 where
 abbrev pub signed_outcome : ℕ → ℕ → Result ℤ Fault
 signed_outcome q x = checked (nat_lt x q) (OutOfRange 0) (Ok (signed q x))
 
--- what each outcome says: that it has x for its residue, and no more than (q-1)/2 for its size, or that x is no residue
+-- what each outcome says: that it has x for its residue, and no more than (q-1)/2 for its size, or that x is
+-- no residue
 abbrev pub IsSignedForm : ℕ → ℕ → Result ℤ Fault → Type 0
 IsSignedForm q x (Ok s) = (x < q) × (residue q s ≡ x) × (unsigned_abs s ≤ (q - 1) / 2)
 IsSignedForm q x (Err (OutOfRange place)) = (q ≤ x) × (place ≡ 0)

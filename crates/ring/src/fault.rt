@@ -2,8 +2,9 @@
 
 ghost use Rattle.std.specs.Prelude.{◌≡◌};
 
-/// Each case holds the place of the fault: which argument it is for a length (see `place`), an index for a number of a
-/// list, a count for a source. `layer`, `number` and `place` are what is reported of it.
+/// Each case holds the place of the fault: which argument it is for a length (see `place`), an
+/// index for a number of a list, a count for a source. `layer`, `number` and `place` are what is
+/// reported of it.
 #[derive(Clone, Copy, PartialEq, Eq, Debug)]
 pub enum Fault {
     /// a list or a buffer of the wrong length

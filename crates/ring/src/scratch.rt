@@ -5,6 +5,7 @@ ghost use Rattle.ring.specs.Scratch.{zeroed};
 
 /// Holds all words of a caller's scratch while they are in use.
 pub struct ScratchGuard<'a> {
+    /// all of them, also those that a call does not need
     pub words: &'a mut [u32],
 }
 

@@ -2,7 +2,7 @@ use Rattle.std.proofs.Common.{subst, arith}
 use Rattle.profile.proofs.Secrets.{lawful_within}
 use Rattle.profile.specs.Secrets.{LawfulSecret}
 use Rattle.profile.specs.declared.bounds.Bounds.{Bounds}
-use Rattle.profile.proofs.holding.PlaceSecretPlace.fill.Goals as goal
+use Rattle.profile.proofs.place.PlaceSecretPlace.fill.Goals as goal
 
 -- what passed the three tests is lawful
 pub invariant_of-self-clause-lawful : goal.invariant_of-self-clause-lawful
