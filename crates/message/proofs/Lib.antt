@@ -14,3 +14,4 @@ pub mod ReadingLaws
 pub mod Laws
 pub mod Lines
 pub mod SpareBits
+pub mod Stretches

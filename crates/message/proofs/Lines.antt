@@ -1,4 +1,4 @@
--- A line: how long it is, what each answer says of the room, and the line written piece by piece.
+-- A line: how long it is, what each outcome says of the room, and the line written piece by piece.
 use Rattle.std.proofs.Common.{◌≡◌, ℕ, ◌+◌, ◌-◌, ◌*◌, eqb, List, [], ◌∷◌, ◌++◌, length, get_or, drop, set, Result, sym, refl, ap, ◌∙◌, subst, arith}
 use Rattle.std.proofs.lemmas.Bool.{cond_both, eqb-true, eqb-false}
 use Rattle.std.proofs.lemmas.List.{append_assoc, length-append, length-drop, length_push, take_at, drop_at, set_at, drop_more, drop_all}
@@ -6,21 +6,21 @@ use borrow.Rule.Slice.PartMut.{put_mid}
 use Rattle.hex.specs.Hex.{encode_lower, lower_digits}
 use Rattle.hex.proofs.HexLemmas.{length-encode_with}
 use Rattle.ring.specs.declared.fault.Fault.{Fault}
-use Rattle.message.specs.Lines.{LineMeans, line, hexadecimal_line_outcome}
+use Rattle.message.specs.Lines.{LineMeans, hexadecimal_line, hexadecimal_line_outcome}
 
-length-line : (word bytes : List ℕ) → length (line word bytes) ≡ length word + 2 * length bytes + 2
-length-line word bytes =
+length-hexadecimal_line : (word bytes : List ℕ) → length (hexadecimal_line word bytes) ≡ length word + 2 * length bytes + 2
+length-hexadecimal_line word bytes =
     let text = encode_lower bytes in
     omega (arith, length-append word (32 ∷ (text ++ 10 ∷ [])), length-append text (10 ∷ []), length-encode_with lower_digits bytes)
 
 pub line_means : (word bytes : List ℕ) (room : ℕ) → LineMeans word bytes room (hexadecimal_line_outcome word bytes room)
 line_means word bytes room =
-    let long = length-line word bytes in
+    let long = length-hexadecimal_line word bytes in
     cond_both (eqb room (length word + 2 * length bytes + 2)) _ _ (LineMeans word bytes room)
     (λ same. eqb-true _ _ same ∙ sym long)
     (λ other. (refl, λ is. eqb-false _ _ other (is ∙ long)))
 
--- the same of an answer that is that of the line
+-- the same of an outcome that is that of the line
 pub outcome_means : (word bytes : List ℕ) (room : ℕ) (result : Result (Unit {0}) Fault) → result ≡ hexadecimal_line_outcome word bytes room → LineMeans word bytes room result
 outcome_means word bytes room result is = subst (LineMeans word bytes room) (sym is) (line_means word bytes room)
 

@@ -1,8 +1,8 @@
 -- A written message reads back to its parts.
-use Rattle.std.proofs.Common.{◌≡◌, ℕ, ◌+◌, ◌*◌, ◌^◌, ◌<◌, List, [], ◌++◌, length, Ok, None, sym, refl, ap, ◌∙◌, arith}
+use Rattle.std.proofs.Common.{◌≡◌, ℕ, ◌*◌, ◌^◌, ◌<◌, List, [], ◌∷◌, length, Ok, None, sym, refl, ap, ◌∙◌, arith}
 use Rattle.std.specs.Option.{option_or}
 use Rattle.std.proofs.lemmas.Bool.{cond-true, lt-ltb}
-use Rattle.std.proofs.lemmas.List.{append_assoc, append-nil, length-append}
+use Rattle.std.proofs.lemmas.List.{append-nil}
 use Rattle.profile.specs.Laws.{InRange}
 use Rattle.packing.specs.Lengths.{packed_length}
 use Rattle.message.specs.Lengths.{values_length, signals_length}
@@ -13,15 +13,14 @@ use Rattle.packing.proofs.Eights.{length-packed}
 use Rattle.packing.proofs.Laws.{number_of_packed, unpacks_what_was_packed}
 use Rattle.packing.proofs.Digits.{number_below}
 use Rattle.message.specs.declared.kind.Kind.TheVariants.{Offer, Answer, Confirmation}
-use Rattle.message.specs.Messages.{offer, answer, confirmation, AreNumbers, HasLawfulParts, IsRound, encoded, head, section}
+use Rattle.message.specs.Messages.{offer, answer, confirmation, AreNumbers, HasLawfulParts, IsRound, encoded, head}
 use Rattle.message.specs.MessageLaws.{ReadsBack}
-use Rattle.message.specs.Reading.{head_fault, head_of, reading, round_in, signals_at, spare_bit_fault, spare_fault}
+use Rattle.message.specs.Reading.{head_fault, reading, round_in, round_told, spare_bit_fault, spare_fault}
 use Rattle.ring.specs.Faults.{unless}
-use Rattle.message.specs.Sections.{stretch}
-use Rattle.message.specs.Shapes.{layout, shape_fault}
+use Rattle.message.specs.Shapes.{contents, layout, offset}
 use Rattle.message.proofs.Heads.{head_right, round_back}
 use Rattle.message.proofs.LengthBounds.{packed_length_most}
-use Rattle.message.proofs.Rows.{found, found_here, ends}
+use Rattle.message.proofs.Rows.{AreLong, row, row_back, row_right, three_in_a_row}
 
 -- ---- numbers in a section
 
@@ -51,24 +50,14 @@ module _ (k : Numbers) (range : InRange k) where
       let m = encoded k (offer round seed values) in
       let h = head k Offer round in
       let v = packed k.w values in
-      let many = values_length k in
-      let v_long : length v ≡ many = packed_long k.n k.w values lawful.2 in
-      let first : m ≡ [] ++ section h ++ (section seed ++ section v) = append_assoc (section h) (section seed) (section v) in
-      let third : m ≡ section h ++ section seed ++ section v ++ [] = sym (append-nil m) in
-      let front : length (section h ++ section seed) ≡ 27 = omega (arith, lawful.1.long) in
-      let all : length m ≡ 29 + many = omega (arith, length-append (section h ++ section seed) (section v), front, v_long) in
-      let shape : shape_fault 0 (layout k Offer) m ≡ None =
-      (λ j. option_or (found m [] h (section seed ++ section v) 0 7 first refl refl (omega arith) j)
-      (option_or (found m (section h) seed (section v) 9 16 refl refl lawful.1.long (omega arith) j)
-      (option_or (found m (section h ++ section seed) v [] 27 many third front v_long values_few j)
-      (ends (29 + many) m all j)))) in
-      let head_is : head_of m ≡ h = found_here m [] h (section seed ++ section v) 0 7 first refl refl (omega arith) in
-      let seed_is : stretch 11 16 m ≡ seed = found_here m (section h) seed (section v) 9 16 refl refl lawful.1.long (omega arith) in
-      let values_are : stretch 29 many m ≡ v = found_here m (section h ++ section seed) v [] 27 many third front v_long values_few in
-      let round_is : round_in (head_of m) ≡ round = ap round_in head_is ∙ round_back k Offer round lawful.0 in
-      let right : head_fault k Offer (head_of m) ≡ None = ap (head_fault k Offer) head_is ∙ head_right k Offer round in
-      let back : unpacked k.w k.n (stretch 29 many m) ≡ values = ap (unpacked k.w k.n) values_are ∙ numbers_back k.n k.w values lawful.2 in
-      (λ j. unless (option_or (shape j) (option_or (right j) None)) (offer (round_is j) (seed_is j) (back j)))
+      let cs = h ∷ seed ∷ v ∷ [] in
+      let long : AreLong (layout k Offer) cs = ((refl, omega arith), ((lawful.1.long, omega arith), ((packed_long k.n k.w values lawful.2, values_few), tt))) in
+      let shape = row_right m [] 0 (layout k Offer) cs (three_in_a_row h seed v) refl long in
+      let back = row_back m [] 0 (layout k Offer) cs (three_in_a_row h seed v) refl long in
+      let round_is : round_told k Offer m ≡ round = ap round_in back.0 ∙ round_back k Offer round lawful.0 in
+      let right : head_fault k Offer (contents k Offer 0 m) ≡ None = ap (head_fault k Offer) back.0 ∙ head_right k Offer round in
+      let values_are : unpacked k.w k.n (contents k Offer 2 m) ≡ values = ap (unpacked k.w k.n) back.1.1.0 ∙ numbers_back k.n k.w values lawful.2 in
+      (λ j. unless (option_or (shape j) (option_or (right j) None)) (offer (round_is j) (back.1.0 j) (values_are j)))
 
   answer_back : (round : ℕ) (values signals : List ℕ) → HasLawfulParts k (answer round values signals) → reading k Answer (encoded k (answer round values signals)) ≡ Ok (answer round values signals)
   answer_back round values signals lawful =
@@ -76,40 +65,29 @@ module _ (k : Numbers) (range : InRange k) where
       let h = head k Answer round in
       let v = packed k.w values in
       let s = packed k.signal_width signals in
-      let many = values_length k in
-      let few = signals_length k in
-      let v_long : length v ≡ many = packed_long k.n k.w values lawful.1 in
-      let s_long : length s ≡ few = packed_long k.n k.signal_width signals lawful.2 in
-      let first : m ≡ [] ++ section h ++ (section v ++ section s) = append_assoc (section h) (section v) (section s) in
-      let third : m ≡ section h ++ section v ++ section s ++ [] = sym (append-nil m) in
-      let front : length (section h ++ section v) ≡ 11 + many = omega (arith, length-append (section h) (section v), v_long) in
-      let all : length m ≡ 13 + many + few = omega (arith, length-append (section h ++ section v) (section s), front, s_long) in
-      let shape : shape_fault 0 (layout k Answer) m ≡ None =
-      (λ j. option_or (found m [] h (section v ++ section s) 0 7 first refl refl (omega arith) j)
-      (option_or (found m (section h) v (section s) 9 many refl refl v_long values_few j)
-      (option_or (found m (section h ++ section v) s [] (11 + many) few third front s_long signals_few j)
-      (ends (11 + many + 2 + few) m (all ∙ omega arith) j)))) in
-      let head_is : head_of m ≡ h = found_here m [] h (section v ++ section s) 0 7 first refl refl (omega arith) in
-      let values_are : stretch 11 many m ≡ v = found_here m (section h) v (section s) 9 many refl refl v_long values_few in
-      let begins : signals_at k ≡ 11 + many + 2 = omega arith in
-      let signals_are : stretch (signals_at k) few m ≡ s = ap (λ at. stretch at few m) begins ∙ found_here m (section h ++ section v) s [] (11 + many) few third front s_long signals_few in
-      let round_is : round_in (head_of m) ≡ round = ap round_in head_is ∙ round_back k Answer round lawful.0 in
-      let right : head_fault k Answer (head_of m) ≡ None = ap (head_fault k Answer) head_is ∙ head_right k Answer round in
-      let spare : spare_fault k Answer m ≡ None = ap (spare_bit_fault k.n k.signal_width (signals_at k) few) signals_are ∙ no_spare_bits k.n k.signal_width signals lawful.2 (signals_at k) few in
-      let values_back : unpacked k.w k.n (stretch 11 many m) ≡ values = ap (unpacked k.w k.n) values_are ∙ numbers_back k.n k.w values lawful.1 in
-      let signals_back : unpacked k.signal_width k.n (stretch (signals_at k) few m) ≡ signals = ap (unpacked k.signal_width k.n) signals_are ∙ numbers_back k.n k.signal_width signals lawful.2 in
-      (λ j. unless (option_or (shape j) (option_or (right j) (spare j))) (answer (round_is j) (values_back j) (signals_back j)))
+      let cs = h ∷ v ∷ s ∷ [] in
+      let long : AreLong (layout k Answer) cs = ((refl, omega arith), ((packed_long k.n k.w values lawful.1, values_few), ((packed_long k.n k.signal_width signals lawful.2, signals_few), tt))) in
+      let shape = row_right m [] 0 (layout k Answer) cs (three_in_a_row h v s) refl long in
+      let back = row_back m [] 0 (layout k Answer) cs (three_in_a_row h v s) refl long in
+      let round_is : round_told k Answer m ≡ round = ap round_in back.0 ∙ round_back k Answer round lawful.0 in
+      let right : head_fault k Answer (contents k Answer 0 m) ≡ None = ap (head_fault k Answer) back.0 ∙ head_right k Answer round in
+      let at = offset k Answer 2 in
+      let spare : spare_fault k Answer m ≡ None =
+      ap (spare_bit_fault k.n k.signal_width at (signals_length k)) back.1.1.0 ∙ no_spare_bits k.n k.signal_width signals lawful.2 at (signals_length k) in
+      let values_are : unpacked k.w k.n (contents k Answer 1 m) ≡ values = ap (unpacked k.w k.n) back.1.0 ∙ numbers_back k.n k.w values lawful.1 in
+      let signals_are : unpacked k.signal_width k.n (contents k Answer 2 m) ≡ signals = ap (unpacked k.signal_width k.n) back.1.1.0 ∙ numbers_back k.n k.signal_width signals lawful.2 in
+      (λ j. unless (option_or (shape j) (option_or (right j) (spare j))) (answer (round_is j) (values_are j) (signals_are j)))
 
   confirmation_back : (round : ℕ) → IsRound round → reading k Confirmation (encoded k (confirmation round)) ≡ Ok (confirmation round)
   confirmation_back round is =
       let m = encoded k (confirmation round) in
       let h = head k Confirmation round in
-      let only : m ≡ [] ++ section h ++ [] = sym (append-nil m) in
-      let shape : shape_fault 0 (layout k Confirmation) m ≡ None =
-      (λ j. option_or (found m [] h [] 0 7 only refl refl (omega arith) j) (ends 9 m refl j)) in
-      let head_is : head_of m ≡ h = found_here m [] h [] 0 7 only refl refl (omega arith) in
-      let round_is : round_in (head_of m) ≡ round = ap round_in head_is ∙ round_back k Confirmation round is in
-      let right : head_fault k Confirmation (head_of m) ≡ None = ap (head_fault k Confirmation) head_is ∙ head_right k Confirmation round in
+      let long : AreLong (layout k Confirmation) (h ∷ []) = ((refl, omega arith), tt) in
+      let alone : m ≡ row (h ∷ []) = sym (append-nil m) in
+      let shape = row_right m [] 0 (layout k Confirmation) (h ∷ []) alone refl long in
+      let back = row_back m [] 0 (layout k Confirmation) (h ∷ []) alone refl long in
+      let round_is : round_told k Confirmation m ≡ round = ap round_in back.0 ∙ round_back k Confirmation round is in
+      let right : head_fault k Confirmation (contents k Confirmation 0 m) ≡ None = ap (head_fault k Confirmation) back.0 ∙ head_right k Confirmation round in
       (λ j. unless (option_or (shape j) (option_or (right j) None)) (confirmation (round_is j)))
 
   pub reads_back : ReadsBack k

@@ -1,8 +1,8 @@
 -- Sections in a row of bytes: one that was written there is found, and one that is found was written there.
-use Rattle.std.proofs.Common.{eqb, ◌≡◌, ℕ, ◌+◌, ◌^◌, ◌<◌, ◌≤◌, Bool, true, false, cond, leb, List, [], ◌++◌, length, take, drop, Some, None, Option, sym, refl, ap, ◌∙◌, arith}
+use Rattle.std.proofs.Common.{eqb, ◌≡◌, ℕ, ◌+◌, ◌^◌, ◌<◌, ◌≤◌, Bool, true, false, cond, leb, List, [], ◌∷◌, ◌++◌, length, take, drop, Some, None, Option, sym, refl, ap, ◌∙◌, arith}
 use Rattle.std.specs.Option.{option_or}
 use Rattle.std.proofs.lemmas.Bool.{cond-true, eqb-true, eq-eqb, leb-true, le-leb, and_parts, and_from}
-use Rattle.std.proofs.lemmas.List.{append_assoc, length-append, length-take-le, length-drop, take_at, drop_at, drop-drop, take-append-drop, drop_all}
+use Rattle.std.proofs.lemmas.List.{append_assoc, append-nil, length-append, length-take-le, length-drop, take_at, drop_at, drop-drop, take-append-drop, drop_all}
 use Rattle.std.proofs.lemmas.List.Elements.{All-take, All-drop}
 use Rattle.std.proofs.lemmas.Option.{none-some}
 use Rattle.packing.specs.Packing.{number, digits, AllFit}
@@ -99,3 +99,75 @@ ended at message right = drop_all at message (leb-true _ _ (none_from_cond (leb 
 
 pub ends : (at : ℕ) (message : List ℕ) → length message ≡ at → shape_fault at [] message ≡ None
 ends at message long = cond-true _ _ _ (le-leb (length message) at (omega arith))
+
+-- ---- sections in a row
+
+-- contents, each in a section
+abbrev pub row : List (List ℕ) → List ℕ
+row [] = []
+row (c ∷ cs) = section c ++ row cs
+
+-- three of them, as messages group them
+pub three_in_a_row : (a b c : List ℕ) → section a ++ section b ++ section c ≡ row (a ∷ b ∷ c ∷ [])
+three_in_a_row a b c = append_assoc (section a) (section b) (section c) ∙ ap (λ r. section a ++ (section b ++ r)) (sym (append-nil (section c)))
+
+-- contents of these sizes
+abbrev pub AreLong : (sizes : List ℕ) → List (List ℕ) → Type 0
+AreLong [] [] = Unit {0}
+AreLong [] (c ∷ cs) = ⊥
+AreLong (many ∷ rest) [] = ⊥
+AreLong (many ∷ rest) (c ∷ cs) = ((length c ≡ many) × (many < 2 ^ 16)) × AreLong rest cs
+
+-- contents that are those of the sections of a message from an offset on
+abbrev pub AreBack : (message : List ℕ) (at : ℕ) (sizes : List ℕ) → List (List ℕ) → Type 0
+AreBack message at [] cs = Unit {0}
+AreBack message at (many ∷ rest) [] = ⊥
+AreBack message at (many ∷ rest) (c ∷ cs) = (stretch (at + 2) many message ≡ c) × AreBack message (at + 2 + many) rest cs
+
+-- a row that was written is found
+module _ (message : List ℕ) where
+  next_start : (pre c : List ℕ) (at many : ℕ) → length pre ≡ at → length c ≡ many → length (pre ++ section c) ≡ at + 2 + many
+  next_start pre c at many starts size = length-append pre (section c) ∙ omega arith
+
+  pub row_right : (pre : List ℕ) (at : ℕ) (sizes : List ℕ) (cs : List (List ℕ)) → message ≡ pre ++ row cs → length pre ≡ at → AreLong sizes cs → shape_fault at sizes message ≡ None
+  row_right pre at [] [] is starts long = ends at message (ap length (is ∙ append-nil pre) ∙ starts)
+  row_right pre at [] (c ∷ cs) is starts long = absurd long
+  row_right pre at (many ∷ rest) [] is starts long = absurd long
+  row_right pre at (many ∷ rest) (c ∷ cs) is starts long =
+      let grouped : message ≡ pre ++ section c ++ row cs = is ∙ sym (append_assoc pre (section c) (row cs)) in
+      let later = row_right (pre ++ section c) (at + 2 + many) rest cs grouped (next_start pre c at many starts long.0.0) long.1 in
+      (λ j. option_or (found message pre c (row cs) at many grouped starts long.0.0 long.0.1 j) (later j))
+
+  pub row_back : (pre : List ℕ) (at : ℕ) (sizes : List ℕ) (cs : List (List ℕ)) → message ≡ pre ++ row cs → length pre ≡ at → AreLong sizes cs → AreBack message at sizes cs
+  row_back pre at [] cs is starts long = tt
+  row_back pre at (many ∷ rest) [] is starts long = absurd long
+  row_back pre at (many ∷ rest) (c ∷ cs) is starts long =
+      let grouped : message ≡ pre ++ section c ++ row cs = is ∙ sym (append_assoc pre (section c) (row cs)) in
+      let later = row_back (pre ++ section c) (at + 2 + many) rest cs grouped (next_start pre c at many starts long.0.0) long.1 in
+      (found_here message pre c (row cs) at many grouped starts long.0.0 long.0.1, later)
+
+-- the contents of the sections that a message has from an offset on
+abbrev pub contents_from : (message : List ℕ) (at : ℕ) (sizes : List ℕ) → List (List ℕ)
+contents_from message at [] = []
+contents_from message at (many ∷ rest) = stretch (at + 2) many message ∷ contents_from message (at + 2 + many) rest
+
+-- each has its size, and is bytes
+abbrev pub AreFound : (message : List ℕ) (at : ℕ) (sizes : List ℕ) → Type 0
+AreFound message at [] = Unit {0}
+AreFound message at (many ∷ rest) =
+    ((length (stretch (at + 2) many message) ≡ many) × AllFit 8 (stretch (at + 2) many message)) × AreFound message (at + 2 + many) rest
+
+-- a row that was found was written
+module _ (message : List ℕ) (fit : AllFit 8 message) where
+  pub row_written : (at : ℕ) (sizes : List ℕ) → shape_fault at sizes message ≡ None → drop at message ≡ row (contents_from message at sizes)
+  row_written at [] right = ended at message right
+  row_written at (many ∷ rest) right =
+      let both = both_none (section_fault at many message) (shape_fault (at + 2 + many) rest message) right in
+      written_here message at many fit both.0
+      ∙ ap (λ r. section (stretch (at + 2) many message) ++ r) (row_written (at + 2 + many) rest both.1)
+
+  pub row_found : (at : ℕ) (sizes : List ℕ) → shape_fault at sizes message ≡ None → AreFound message at sizes
+  row_found at [] right = tt
+  row_found at (many ∷ rest) right =
+      let both = both_none (section_fault at many message) (shape_fault (at + 2 + many) rest message) right in
+      ((stretch_long message at many fit both.0, stretch_fits message at many fit both.0), row_found (at + 2 + many) rest both.1)

@@ -1,8 +1,8 @@
 -- An accepted message is what its parts are written as.
-use Rattle.std.proofs.Common.{◌≡◌, ℕ, ◌+◌, ◌-◌, ◌*◌, ◌^◌, ◌<◌, List, [], ◌∷◌, ◌++◌, length, Ok, Result, Some, None, Option, ltb, sym, refl, ap, ◌∙◌, subst, arith}
+use Rattle.std.proofs.Common.{◌≡◌, ℕ, ◌+◌, ◌-◌, ◌*◌, ◌^◌, ◌<◌, List, ◌++◌, length, Ok, Result, Some, None, Option, ltb, sym, refl, ap, ◌∙◌, subst, arith}
 use Rattle.std.specs.Option.{option_or}
 use Rattle.std.proofs.lemmas.Bool.{ltb-true}
-use Rattle.std.proofs.lemmas.List.{append_assoc, append-nil}
+use Rattle.std.proofs.lemmas.List.{append-nil}
 use Rattle.profile.specs.Laws.{InRange}
 use Rattle.message.specs.Lengths.{values_length, signals_length}
 use Rattle.profile.specs.declared.numbers.Numbers.{Numbers}
@@ -13,14 +13,13 @@ use Rattle.message.specs.declared.fault.Fault.{Fault}
 use Rattle.message.specs.declared.fault.Fault.TheVariants.{SpareBit}
 use Rattle.message.specs.declared.kind.Kind.{Kind}
 use Rattle.message.specs.declared.kind.Kind.TheVariants.{Offer, Answer, Confirmation}
-use Rattle.message.specs.Messages.{Message, offer, answer, confirmation, AreNumbers, encoded, head, section}
+use Rattle.message.specs.Messages.{Message, AreNumbers, section}
 use Rattle.message.specs.MessageLaws.{IsWrittenFromItsParts, WrittenFrom}
-use Rattle.message.specs.Reading.{answer_values_at, head_fault, head_of, offer_values_at, parts, reading_fault, round_in, seed_at, signals_at, spare_bit_fault, spare_fault}
+use Rattle.message.specs.Reading.{head_fault, parts, reading_fault, spare_bit_fault, spare_fault}
 use Rattle.ring.specs.Faults.{unless}
-use Rattle.message.specs.Sections.{stretch}
-use Rattle.message.specs.Shapes.{layout, section_fault, shape_fault}
+use Rattle.message.specs.Shapes.{contents, layout, offset, shape_fault}
 use Rattle.message.proofs.Heads.{head_back}
-use Rattle.message.proofs.Rows.{both_none, none_from_cond, stretch_long, stretch_fits, written_here, ended}
+use Rattle.message.proofs.Rows.{AreFound, both_none, contents_from, none_from_cond, row, row_found, row_written, three_in_a_row}
 
 -- nothing is refused where something is accepted
 accepted : (f : Option Fault) (p m : Message) → ◌≡◌ {A = Result Message Fault} (unless f p) (Ok m) → (f ≡ None) × (p ≡ m)
@@ -46,67 +45,62 @@ module _ (k : Numbers) (range : InRange k) (bytes : List ℕ) (fit : AllFit 8 by
       let below : number 8 b < 2 ^ (k.n * k.signal_width) = ltb-true _ _ (none_from_cond (ltb (number 8 b) (2 ^ (k.n * k.signal_width))) (SpareBit (at + signals_length k - 1)) None clear).0 in
       packs_below k.signal_width k.n b fits long below
 
+  -- what is accepted has the right shape, the right head and no spare bit
+  module _ (kind : Kind) (none : reading_fault k kind bytes ≡ None) where
+    shape : shape_fault 0 (layout k kind) bytes ≡ None
+    shape = (both_none (shape_fault 0 (layout k kind) bytes) (option_or (head_fault k kind (contents k kind 0 bytes)) (spare_fault k kind bytes)) none).0
+
+    others : (head_fault k kind (contents k kind 0 bytes) ≡ None) × (spare_fault k kind bytes ≡ None)
+    others =
+        both_none (head_fault k kind (contents k kind 0 bytes)) (spare_fault k kind bytes)
+        (both_none (shape_fault 0 (layout k kind) bytes) (option_or (head_fault k kind (contents k kind 0 bytes)) (spare_fault k kind bytes)) none).1
+
+    sections : AreFound bytes 0 (layout k kind)
+    sections = row_found bytes fit 0 (layout k kind) shape
+
+    written : bytes ≡ row (contents_from bytes 0 (layout k kind))
+    written = row_written bytes fit 0 (layout k kind) shape
+
   offer_again : reading_fault k Offer bytes ≡ None → WrittenFrom k Offer bytes (parts k Offer bytes)
   offer_again none =
-      let many = values_length k in
-      let split = both_none (shape_fault 0 (layout k Offer) bytes) (option_or (head_fault k Offer (head_of bytes)) None) none in
-      let right = (both_none (head_fault k Offer (head_of bytes)) None split.1).0 in
-      let one = both_none (section_fault 0 7 bytes) (shape_fault 9 (16 ∷ many ∷ []) bytes) split.0 in
-      let two = both_none (section_fault 9 16 bytes) (shape_fault 27 (many ∷ []) bytes) one.1 in
-      let three = both_none (section_fault 27 many bytes) (shape_fault (29 + many) [] bytes) two.1 in
-      let h = head_of bytes in
-      let seed = stretch 11 16 bytes in
-      let b = stretch 29 many bytes in
-      let headed = head_back k Offer h (stretch_fits bytes 0 7 fit one.0) (stretch_long bytes 0 7 fit one.0) right in
-      let valued = values_again b (stretch_fits bytes 27 many fit three.0) (stretch_long bytes 27 many fit three.0) in
-      let row : bytes ≡ section h ++ section seed ++ section b =
-      written_here bytes 0 7 fit one.0
-      ∙ ap (λ r. section h ++ r) (written_here bytes 9 16 fit two.0 ∙ ap (λ r. section seed ++ r) (written_here bytes 27 many fit three.0 ∙ ap (λ r. section b ++ r) (ended (29 + many) bytes three.1) ∙ append-nil (section b)))
-      ∙ sym (append_assoc (section h) (section seed) (section b)) in
+      let h = contents k Offer 0 bytes in
+      let seed = contents k Offer 1 bytes in
+      let v = contents k Offer 2 bytes in
+      let found = sections Offer none in
+      let headed = head_back k Offer h found.0.1 found.0.0 (others Offer none).0 in
+      let valued = values_again v found.1.1.0.1 found.1.1.0.0 in
       record {
         same_kind = refl;
-        lawful = (headed.1, record { long = stretch_long bytes 9 16 fit two.0; bytes = stretch_fits bytes 9 16 fit two.0 }, unpacked_lawful k.n k.w b);
-        same_bytes = (λ j. section (sym headed.0 j) ++ section seed ++ section (valued j)) ∙ sym row;
+        lawful = (headed.1, record { long = found.1.0.0; bytes = found.1.0.1 }, unpacked_lawful k.n k.w v);
+        same_bytes = (λ j. section (sym headed.0 j) ++ section seed ++ section (valued j)) ∙ three_in_a_row h seed v ∙ sym (written Offer none);
       }
 
   answer_again : reading_fault k Answer bytes ≡ None → WrittenFrom k Answer bytes (parts k Answer bytes)
   answer_again none =
-      let many = values_length k in
-      let few = signals_length k in
-      let split = both_none (shape_fault 0 (layout k Answer) bytes) (option_or (head_fault k Answer (head_of bytes)) (spare_fault k Answer bytes)) none in
-      let others = both_none (head_fault k Answer (head_of bytes)) (spare_fault k Answer bytes) split.1 in
-      let one = both_none (section_fault 0 7 bytes) (shape_fault 9 (many ∷ few ∷ []) bytes) split.0 in
-      let two = both_none (section_fault 9 many bytes) (shape_fault (11 + many) (few ∷ []) bytes) one.1 in
-      let three = both_none (section_fault (11 + many) few bytes) (shape_fault (11 + many + 2 + few) [] bytes) two.1 in
-      let h = head_of bytes in
-      let b = stretch 11 many bytes in
-      let s = stretch (11 + many + 2) few bytes in
-      let begins : 11 + many + 2 ≡ signals_at k = omega arith in
-      let headed = head_back k Answer h (stretch_fits bytes 0 7 fit one.0) (stretch_long bytes 0 7 fit one.0) others.0 in
-      let valued = values_again b (stretch_fits bytes 9 many fit two.0) (stretch_long bytes 9 many fit two.0) in
-      let s_is : s ≡ stretch (signals_at k) few bytes = ap (λ at. stretch at few bytes) begins in
-      let clear : spare_bit_fault k.n k.signal_width (signals_at k) few s ≡ None = ap (spare_bit_fault k.n k.signal_width (signals_at k) few) s_is ∙ others.1 in
-      let signalled = signals_again s (signals_at k) (stretch_fits bytes (11 + many) few fit three.0) (stretch_long bytes (11 + many) few fit three.0) clear in
-      let row : bytes ≡ section h ++ section b ++ section s =
-      written_here bytes 0 7 fit one.0
-      ∙ ap (λ r. section h ++ r) (written_here bytes 9 many fit two.0 ∙ ap (λ r. section b ++ r) (written_here bytes (11 + many) few fit three.0 ∙ ap (λ r. section s ++ r) (ended (11 + many + 2 + few) bytes three.1) ∙ append-nil (section s)))
-      ∙ sym (append_assoc (section h) (section b) (section s)) in
+      let h = contents k Answer 0 bytes in
+      let v = contents k Answer 1 bytes in
+      let s = contents k Answer 2 bytes in
+      let found = sections Answer none in
+      let right = others Answer none in
+      let headed = head_back k Answer h found.0.1 found.0.0 right.0 in
+      let valued = values_again v found.1.0.1 found.1.0.0 in
+      let signalled = signals_again s (offset k Answer 2) found.1.1.0.1 found.1.1.0.0 right.1 in
       record {
         same_kind = refl;
-        lawful = (headed.1, unpacked_lawful k.n k.w b, unpacked_lawful k.n k.signal_width (stretch (signals_at k) few bytes));
-        same_bytes = ap (λ t. section (head k Answer (round_in h)) ++ section (packed k.w (unpacked k.w k.n b)) ++ section (packed k.signal_width (unpacked k.signal_width k.n t))) (sym s_is)
-            ∙ (λ j. section (sym headed.0 j) ++ section (valued j) ++ section (signalled j)) ∙ sym row;
+        lawful = (headed.1, unpacked_lawful k.n k.w v, unpacked_lawful k.n k.signal_width s);
+        same_bytes = (λ j. section (sym headed.0 j) ++ section (valued j) ++ section (signalled j)) ∙ three_in_a_row h v s ∙ sym (written Answer none);
       }
 
   confirmation_again : reading_fault k Confirmation bytes ≡ None → WrittenFrom k Confirmation bytes (parts k Confirmation bytes)
   confirmation_again none =
-      let split = both_none (shape_fault 0 (layout k Confirmation) bytes) (option_or (head_fault k Confirmation (head_of bytes)) None) none in
-      let right = (both_none (head_fault k Confirmation (head_of bytes)) None split.1).0 in
-      let one = both_none (section_fault 0 7 bytes) (shape_fault 9 [] bytes) split.0 in
-      let h = head_of bytes in
-      let headed = head_back k Confirmation h (stretch_fits bytes 0 7 fit one.0) (stretch_long bytes 0 7 fit one.0) right in
-      let row : bytes ≡ section h = written_here bytes 0 7 fit one.0 ∙ ap (λ r. section h ++ r) (ended 9 bytes one.1) ∙ append-nil (section h) in
-      record { same_kind = refl; lawful = headed.1; same_bytes = ap section (sym headed.0) ∙ sym row }
+      let h = contents k Confirmation 0 bytes in
+      let found = sections Confirmation none in
+      let headed = head_back k Confirmation h found.0.1 found.0.0 (others Confirmation none).0 in
+      record {
+        same_kind = refl;
+        lawful = headed.1;
+        same_bytes = ap section (sym headed.0) ∙ sym (append-nil (section h)) ∙ sym (written Confirmation none);
+      }
 
   parts_again : (kind : Kind) → reading_fault k kind bytes ≡ None → WrittenFrom k kind bytes (parts k kind bytes)
   parts_again Offer none = offer_again none
@@ -117,16 +111,3 @@ pub is_written_from_its_parts : (k : Numbers) → InRange k → IsWrittenFromIts
 is_written_from_its_parts k range kind bytes m fit read =
     let both = accepted (reading_fault k kind bytes) (parts k kind bytes) m read in
     subst (WrittenFrom k kind bytes) both.1 (parts_again k range bytes fit kind both.0)
-
--- the same of what is handed out of a message
-module _ (k : Numbers) (range : InRange k) (bytes : List ℕ) (fit : AllFit 8 bytes) (round : ℕ) (is_round : round ≡ round_in (head_of bytes)) where
-  pub same_offer : (seed values : List ℕ) → reading_fault k Offer bytes ≡ None → seed ≡ stretch seed_at 16 bytes → values ≡ stretch offer_values_at (values_length k) bytes → encoded k (offer round seed (unpacked k.w k.n values)) ≡ bytes
-  same_offer seed values none is_seed are_values =
-      (λ j. encoded k (offer (is_round j) (is_seed j) (unpacked k.w k.n (are_values j)))) ∙ (parts_again k range bytes fit Offer none).same_bytes
-
-  pub same_answer : (values signals : List ℕ) → reading_fault k Answer bytes ≡ None → values ≡ stretch answer_values_at (values_length k) bytes → signals ≡ stretch (signals_at k) (signals_length k) bytes → encoded k (answer round (unpacked k.w k.n values) (unpacked k.signal_width k.n signals)) ≡ bytes
-  same_answer values signals none are_values are_signals =
-      (λ j. encoded k (answer (is_round j) (unpacked k.w k.n (are_values j)) (unpacked k.signal_width k.n (are_signals j)))) ∙ (parts_again k range bytes fit Answer none).same_bytes
-
-  pub same_confirmation : reading_fault k Confirmation bytes ≡ None → encoded k (confirmation round) ≡ bytes
-  same_confirmation none = (λ j. encoded k (confirmation (is_round j))) ∙ (parts_again k range bytes fit Confirmation none).same_bytes

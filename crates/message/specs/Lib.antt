@@ -5,7 +5,6 @@ pub mod Sections
 pub mod Writing
 pub mod WritingLaws
 pub mod Lines
-pub mod Parts
 pub mod Shapes
 pub mod Reading
 pub mod ReadingLaws

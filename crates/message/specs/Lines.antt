@@ -4,19 +4,22 @@ use Rattle.ring.specs.Faults.{checked}
 use Rattle.ring.specs.declared.fault.Fault.{Fault}
 use Rattle.ring.specs.declared.fault.Fault.TheVariants.{WrongLength, OutOfRange}
 use Rattle.ring.specs.declared.fault.Fault.TheVariants.{SumTooLarge, CoinOutOfRange, SourceSpent}
+use Rattle.ring.specs.declared.place.TheConstants.{OUTPUT}
 use Rattle.hex.specs.Hex.{encode_lower}
 
 -- the word, a space, the bytes in lower-case hexadecimal, and a newline
-abbrev pub line : (word bytes : List ℕ) → List ℕ
-line word bytes = word ++ 32 ∷ (encode_lower bytes ++ 10 ∷ [])
+abbrev pub hexadecimal_line : (word bytes : List ℕ) → List ℕ
+hexadecimal_line word bytes = word ++ 32 ∷ (encode_lower bytes ++ 10 ∷ [])
 
 abbrev pub hexadecimal_line_outcome : (word bytes : List ℕ) → (room : ℕ) → Result (Unit {0}) Fault
-hexadecimal_line_outcome word bytes room = checked (room == length word + 2 * length bytes + 2) (WrongLength 4) (Ok tt)
+hexadecimal_line_outcome word bytes room =
+    checked (room == length word + 2 * length bytes + 2) (WrongLength OUTPUT) (Ok tt)
 
--- what each answer says of the room: that it is the line's length, or that it is not
+-- what each outcome says of the room: that it is the line's length, or that it is not
 abbrev pub LineMeans : (word bytes : List ℕ) → (room : ℕ) → Result (Unit {0}) Fault → Type 0
-LineMeans word bytes room (Ok _) = room ≡ length (line word bytes)
-LineMeans word bytes room (Err (WrongLength place)) = (place ≡ 4) × (room ≢ length (line word bytes))
+LineMeans word bytes room (Ok _) = room ≡ length (hexadecimal_line word bytes)
+LineMeans word bytes room (Err (WrongLength place)) =
+    (place ≡ OUTPUT) × (room ≢ length (hexadecimal_line word bytes))
 LineMeans word bytes room (Err (OutOfRange place)) = ⊥
 LineMeans word bytes room (Err (SumTooLarge place)) = ⊥
 LineMeans word bytes room (Err (CoinOutOfRange place)) = ⊥

@@ -25,7 +25,9 @@ pub record WrittenFrom (k : Numbers) (kind : Kind) (bytes : List ℕ) (m : Messa
   pub same_bytes : encoded k m ≡ bytes
 
 abbrev pub IsWrittenFromItsParts : Numbers → Type 0
-IsWrittenFromItsParts k = (kind : Kind) (bytes : List ℕ) (m : Message) → AllFit 8 bytes → reading k kind bytes ≡ Ok m → WrittenFrom k kind bytes m
+IsWrittenFromItsParts k =
+    (kind : Kind) (bytes : List ℕ) (m : Message) → AllFit 8 bytes → reading k kind bytes ≡ Ok m
+    → WrittenFrom k kind bytes m
 
 -- messages with the same bytes are of one kind, one profile and one round
 pub record Alike (k l : Numbers) (m o : Message) : Type 0 where
@@ -35,14 +37,18 @@ pub record Alike (k l : Numbers) (m o : Message) : Type 0 where
   pub round : round_of m ≡ round_of o
 
 abbrev pub TellsKindProfileAndRound : Type 0
-TellsKindProfileAndRound = (k l : Numbers) (m o : Message) → IsRound (round_of m) → IsRound (round_of o) → encoded k m ≡ encoded l o → Alike k l m o
+TellsKindProfileAndRound =
+    (k l : Numbers) (m o : Message) → IsRound (round_of m) → IsRound (round_of o) → encoded k m ≡ encoded l o
+    → Alike k l m o
 
--- the spare bits of n numbers of w bits in bytes at an offset: none is set where there is no fault, and else the fault is at
--- the byte of each that is set
+-- the spare bits of n numbers of w bits in bytes at an offset: none is set where there is no fault, and else
+-- the fault is at the byte of each that is set
 pub record TellsSpareBits (n w at : ℕ) (bytes : List ℕ) : Type 0 where
   pub none_is_set : spare_bit_fault n w at (packed_length n w) bytes ≡ None → SpareClear w n bytes
   pub none_is_refused : SpareClear w n bytes → spare_bit_fault n w at (packed_length n w) bytes ≡ None
-  pub at_its_byte : (j : ℕ) → n * w ≤ j → (bit_of bytes j ≡ 0 → ⊥) → spare_bit_fault n w at (packed_length n w) bytes ≡ Some (SpareBit (at + j / 8))
+  pub at_its_byte :
+      (j : ℕ) → n * w ≤ j → (bit_of bytes j ≡ 0 → ⊥) →
+      spare_bit_fault n w at (packed_length n w) bytes ≡ Some (SpareBit (at + j / 8))
 
 -- lawful parts are written, as bytes, and as many of them as a message of the kind has
 pub record WritesLawfulParts (k : Numbers) (m : Message) : Type 0 where
@@ -51,7 +57,8 @@ pub record WritesLawfulParts (k : Numbers) (m : Message) : Type 0 where
   pub accepted : write_outcome k m (message_length k (kind_of m)) ≡ Ok tt
 
 pub record MessageLaws : Type 0 where
-  pub writes_lawful_parts : (k : Numbers) → InRange k → (m : Message) → HasLawfulParts k m → WritesLawfulParts k m
+  pub writes_lawful_parts :
+      (k : Numbers) → InRange k → (m : Message) → HasLawfulParts k m → WritesLawfulParts k m
   pub reads_back : (k : Numbers) → InRange k → ReadsBack k
   pub is_written_from_its_parts : (k : Numbers) → InRange k → IsWrittenFromItsParts k
   pub tells_kind_profile_and_round : TellsKindProfileAndRound
@@ -61,4 +68,6 @@ pub record MessageLaws : Type 0 where
   pub reading_refuses_the_first : ReadingRefusesTheFirst
   pub tells_wrong_shapes : TellsWrongShapes
   pub tells_wrong_heads : TellsWrongHeads
-  pub tells_spare_bits : (n w at : ℕ) (bytes : List ℕ) → AllFit 8 bytes → length bytes ≡ packed_length n w → TellsSpareBits n w at bytes
+  pub tells_spare_bits :
+      (n w at : ℕ) (bytes : List ℕ) → AllFit 8 bytes → length bytes ≡ packed_length n w →
+      TellsSpareBits n w at bytes

@@ -1,4 +1,4 @@
--- Where bytes are not a message of a kind, and what each answer of reading says of this.
+-- Where bytes are not a message of a kind, and what each outcome of reading says of this.
 use Rattle.std.specs.Prelude.{◌≡◌, ◌≢◌, ℕ, ◌+◌, ◌*◌, ◌/◌, ◌<◌, ◌≤◌, ◌⊎◌, List, [], ◌∷◌, length, slice_index}
 use Rattle.std.specs.Prelude.{Ok, Err, Result, Some, None, Option}
 use Rattle.profile.specs.declared.numbers.Numbers.{Numbers}
@@ -6,12 +6,13 @@ use Rattle.packing.specs.Packing.{AllFit, number}
 use Rattle.packing.specs.PackingLaws.{bit_of}
 use Rattle.message.specs.declared.fault.Fault.{Fault}
 use Rattle.message.specs.declared.fault.Fault.TheVariants.{WrongShape, WrongHead, SpareBit}
+use Rattle.message.specs.declared.fixed_lengths.TheConstants.{COUNT_LENGTH}
 use Rattle.message.specs.declared.kind.Kind.{Kind}
 use Rattle.message.specs.declared.kind.Kind.TheVariants.{Offer, Answer, Confirmation}
 use Rattle.message.specs.Messages.{Message, head}
-use Rattle.message.specs.Reading.{head_fault, head_of, parts, reading, signal_bytes, signals_at}
+use Rattle.message.specs.Reading.{head_fault, parts, reading}
 use Rattle.message.specs.Sections.{stretch}
-use Rattle.message.specs.Shapes.{layout, shape_fault}
+use Rattle.message.specs.Shapes.{contents, layout, offset, shape_fault}
 
 -- ---- places
 
@@ -33,22 +34,22 @@ FaultMeans fault_at Wrong (Some fault) = (place : ℕ) × (fault ≡ fault_at pl
 
 -- the two bytes from an offset on are there, and are this count
 pub record HasCount (at many : ℕ) (message : List ℕ) : Type 0 where
-  pub there : at + 2 ≤ length message
-  pub count : number 8 (stretch at 2 message) ≡ many
+  pub there : at + COUNT_LENGTH ≤ length message
+  pub count : number 8 (stretch at COUNT_LENGTH message) ≡ many
 
--- the places at which a message is not a row of sections that begins at an offset: a count that is missing or
--- wrong, the start of contents that are cut short, the first byte after the last section
+-- the places at which a message is not a row of sections that begins at an offset: a count that is missing
+-- or wrong, the start of contents that are cut short, the first byte after the last section
 abbrev pub ShapeIsWrongAt : (at : ℕ) → List ℕ → List ℕ → ℕ → Type 0
 ShapeIsWrongAt at [] message place = (place ≡ at) × (at < length message)
 ShapeIsWrongAt at (many ∷ rest) message place =
     ((place ≡ at) × (HasCount at many message → ⊥))
-    ⊎ ((place ≡ at + 2) × (length message < at + 2 + many))
-    ⊎ ShapeIsWrongAt (at + 2 + many) rest message place
+    ⊎ ((place ≡ at + COUNT_LENGTH) × (length message < at + COUNT_LENGTH + many))
+    ⊎ ShapeIsWrongAt (at + COUNT_LENGTH + many) rest message place
 
 -- the places of the head's first three bytes that are not those of the kind and the profile
 abbrev pub HeadIsWrongAt : Numbers → Kind → List ℕ → ℕ → Type 0
 HeadIsWrongAt k kind h place =
-    (i : ℕ) × (i < 3) × (place ≡ 2 + i) × (slice_index h i ≢ slice_index (head k kind 0) i)
+    (i : ℕ) × (i < 3) × (place ≡ COUNT_LENGTH + i) × (slice_index h i ≢ slice_index (head k kind 0) i)
 
 -- the places of the bytes that have a bit set after those of n numbers of w bits, in bytes from an offset on
 abbrev pub SpareBitIsSetAt : (n w at : ℕ) → List ℕ → ℕ → Type 0
@@ -71,17 +72,17 @@ abbrev pub WrongShapeAt : Numbers → Kind → List ℕ → ℕ → Type 0
 WrongShapeAt k kind message = ShapeIsWrongAt 0 (layout k kind) message
 
 abbrev pub WrongHeadAt : Numbers → Kind → List ℕ → ℕ → Type 0
-WrongHeadAt k kind message = HeadIsWrongAt k kind (head_of message)
+WrongHeadAt k kind message = HeadIsWrongAt k kind (contents k kind 0 message)
 
 -- only the signals of an answer have spare bits
 abbrev pub SpareBitAt : Numbers → Kind → List ℕ → ℕ → Type 0
 SpareBitAt k Offer message place = ⊥
 SpareBitAt k Answer message place =
-    SpareBitIsSetAt k.n k.signal_width (signals_at k) (signal_bytes k message) place
+    SpareBitIsSetAt k.n k.signal_width (offset k Answer 2) (contents k Answer 2 message) place
 SpareBitAt k Confirmation message place = ⊥
 
--- what each answer says of the bytes: that they are a message of the kind, and its parts, or where they first
--- are not, by shape, then head, then spare bits
+-- what each outcome says of the bytes: that they are a message of the kind, and its parts, or where they
+-- first are not, by shape, then head, then spare bits
 abbrev pub ReadingMeans : Numbers → Kind → (message : List ℕ) → Result Message Fault → Type 0
 ReadingMeans k kind message (Ok m) =
     Nowhere (WrongShapeAt k kind message)

@@ -3,11 +3,12 @@
 ghost use Rattle.std.specs.Prelude.{◌≡◌};
 ghost use Rattle.message.specs.Faults.{layer_of, number_of, place_of};
 
-/// Each case holds the place of the fault, an offset in the message. `layer`, `number` and `place` are what is reported of
-/// it.
+/// Each case holds the place of the fault, an offset in the message. `layer`, `number` and `place`
+/// are what is reported of it.
 #[derive(Clone, Copy, PartialEq, Eq, Debug)]
 pub enum Fault {
-    /// a count that is missing or wrong, contents that are cut short, or bytes after the last section
+    /// a count that is missing or wrong, contents that are cut short, or bytes after the last
+    /// section
     WrongShape(usize),
     /// a byte of the head that is not that of the kind or of the profile
     WrongHead(usize),
@@ -16,12 +17,14 @@ pub enum Fault {
 }
 
 impl Fault {
+    /// The layer that gives the fault: 2, messages.
     pub fn layer(self) -> u8
         ensures { result ≡ layer_of self }
     {
         2
     }
 
+    /// The fault's number, from 7 to 9: those below are the ring's.
     pub fn number(self) -> u8
         ensures { result ≡ number_of self }
     {
@@ -32,6 +35,7 @@ impl Fault {
         }
     }
 
+    /// The offset in the message.
     pub fn place(self) -> usize
         ensures { result ≡ place_of self }
     {

@@ -3,11 +3,12 @@
 ghost use Rattle.std.specs.Prelude.{◌≡◌};
 ghost use Rattle.message.specs.Messages.{IsRound, head};
 
+use crate::fixed_lengths::HEAD_LENGTH;
 use crate::kind::Kind;
 use profile::Profile;
 
-/// Its seven bytes.
-pub(crate) fn head<P: Profile>(kind: Kind, round: u32) -> [u8; 7]
+/// Its bytes: the kind's, the profile's two, and the round in four, the low byte first.
+pub(crate) fn head<P: Profile>(kind: Kind, round: u32) -> [u8; HEAD_LENGTH]
     ensures bytes { result ≡ head P.NUMBERS kind round }
     ensures round { IsRound round }
 {

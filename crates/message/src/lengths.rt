@@ -2,21 +2,18 @@
 
 ghost use Rattle.std.specs.Prelude.{◌≡◌, ◌+◌, ◌≤◌};
 ghost use Rattle.packing.specs.Lengths.{packed_length};
-ghost use Rattle.message.specs.Lengths.{values_length, signals_length, section_length, offer_length, answer_length, confirmation_length, key_length};
+ghost use Rattle.message.specs.Lengths.{answer_length, confirmation_length, offer_length};
+ghost use Rattle.message.specs.Lengths.{key_length, section_length, signals_length, values_length};
 
+use crate::fixed_lengths::{COUNT_LENGTH, HEAD_LENGTH, SEED_LENGTH};
 use crate::widths::{key_width, signals_width, values_width};
 use packing::Width;
 use profile::Profile;
 
-/// The bytes of a message's head.
-pub const HEAD_LENGTH: usize = 7;
-
-/// The bytes of a seed.
-pub const SEED_LENGTH: usize = 16;
-
 /// What n numbers of a width take, packed one after another.
 fn packed<P: Profile>(width: Width) -> usize
-    ensures value { result ≡ packed_length P.NUMBERS.n width.bits }
+    requires { width ≤ 16 }
+    ensures value { result ≡ packed_length P.NUMBERS.n width }
     ensures bound { result ≤ 2048 }
 {
     width.packed_length(P::NUMBERS.n) as usize
@@ -27,7 +24,7 @@ fn section(bytes: usize) -> usize
     requires { bytes ≤ 2048 }
     ensures { result ≡ section_length bytes }
 {
-    2 + bytes
+    COUNT_LENGTH + bytes
 }
 
 /// The rounded values of an element.

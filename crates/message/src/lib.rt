@@ -1,8 +1,9 @@
-//! Messages: how an offer, an answer and a confirmation are written from their parts and read back.
+//! Messages: how offers, answers and confirmations are written from their parts and read back.
 
 #![tactic(auto)]
 
 mod fault;
+mod fixed_lengths;
 mod head;
 mod kind;
 mod lengths;
@@ -16,10 +17,10 @@ mod widths;
 mod writing;
 
 pub use fault::Fault;
+pub use fixed_lengths::{HEAD_LENGTH, SEED_LENGTH};
 pub use kind::Kind;
 pub use lengths::{
-    HEAD_LENGTH, SEED_LENGTH, answer_length, confirmation_length, key_length, offer_length,
-    signals_length, values_length,
+    answer_length, confirmation_length, key_length, offer_length, signals_length, values_length,
 };
 pub use line::hexadecimal_line;
 pub use parts::{Answer, Confirmation, Offer};

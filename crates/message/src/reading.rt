@@ -1,30 +1,30 @@
 //! Reading messages back to their sections.
 
-ghost use Rattle.std.specs.Prelude.{◌≡◌, ◌+◌, ◌^◌, ◌<◌, ◌≤◌, IfOk, [], length};
+ghost use Rattle.std.specs.Prelude.{◌≡◌, ◌+◌, ◌^◌, ◌<◌, ◌≤◌, IfOk, [], ◌∷◌, length};
 ghost use Rattle.std.specs.Result.{result_err};
 ghost use Rattle.ring.specs.Faults.{told};
-ghost use Rattle.message.specs.Messages.{encoded};
-ghost use Rattle.message.specs.Reading.{IsOffer, IsAnswer, IsConfirmation, parts_of_offer, parts_of_answer, parts_of_confirmation};
-ghost use Rattle.message.specs.Reading.{head_fault, reading, reading_fault, round_in, spare_bit_fault};
+ghost use Rattle.message.specs.Reading.{head_fault, reading, round_in, spare_bit_fault};
+ghost use Rattle.message.specs.Reading.{parts_of_answer, parts_of_confirmation, parts_of_offer};
 ghost use Rattle.message.specs.ReadingLaws.{ReadingMeans};
-ghost use Rattle.message.specs.Shapes.{IsStretch, section_fault, shape_fault};
+ghost use Rattle.message.specs.Shapes.{AreSections, IsStretch, section_fault, shape_fault};
 ghost use Rattle.message.specs.declared.kind.Kind.TheVariants.{Offer, Answer, Confirmation};
 ghost use Rattle.message.specs.Lengths.{signals_length};
 
 use crate::fault::Fault;
+use crate::fixed_lengths::{COUNT_LENGTH, HEAD_LENGTH, SEED_LENGTH};
 use crate::kind::Kind;
-use crate::lengths::{HEAD_LENGTH, SEED_LENGTH, signals_length, values_length};
+use crate::lengths::{signals_length, values_length};
 use crate::section::{AnswerSections, ConfirmationSections, OfferSections, Section};
 use profile::Profile;
 
 /// Reads a message as an offer.
 pub fn read_offer<P: Profile>(message: &[u8]) -> Result<OfferSections<'_>, Fault>
-    ensures outcome { told (parts_of_offer P.NUMBERS) result ≡ reading P.NUMBERS Offer message.now }
-    ensures fault { result_err result ≡ reading_fault P.NUMBERS Offer message.now }
-    ensures means { ReadingMeans P.NUMBERS Offer message.now (told (parts_of_offer P.NUMBERS) result) }
-    ensures sections { IfOk result (λ o. IsOffer P.NUMBERS message.entry o) }
-    ensures writes_back { let k = P.NUMBERS in
-        IfOk result (λ o. encoded k (parts_of_offer k o) ≡ message.now) }
+    ensures outcome { let k = P.NUMBERS in
+        told (parts_of_offer k) result ≡ reading k Offer message.now }
+    ensures means { let k = P.NUMBERS in
+        ReadingMeans k Offer message.now (told (parts_of_offer k) result) }
+    ensures sections { let Are = AreSections P.NUMBERS Offer message.entry 0 in
+        IfOk result (λ o. Are (o.head ∷ o.seed ∷ o.values ∷ [])) }
 {
     let (head, at) = read_section(message, 0, HEAD_LENGTH)?;
     let (seed, at) = read_section(message, at, SEED_LENGTH)?;
@@ -41,12 +41,12 @@ pub fn read_offer<P: Profile>(message: &[u8]) -> Result<OfferSections<'_>, Fault
 
 /// Reads a message as an answer.
 pub fn read_answer<P: Profile>(message: &[u8]) -> Result<AnswerSections<'_>, Fault>
-    ensures outcome { told (parts_of_answer P.NUMBERS) result ≡ reading P.NUMBERS Answer message.now }
-    ensures fault { result_err result ≡ reading_fault P.NUMBERS Answer message.now }
-    ensures means { ReadingMeans P.NUMBERS Answer message.now (told (parts_of_answer P.NUMBERS) result) }
-    ensures sections { IfOk result (λ a. IsAnswer P.NUMBERS message.entry a) }
-    ensures writes_back { let k = P.NUMBERS in
-        IfOk result (λ a. encoded k (parts_of_answer k a) ≡ message.now) }
+    ensures outcome { let k = P.NUMBERS in
+        told (parts_of_answer k) result ≡ reading k Answer message.now }
+    ensures means { let k = P.NUMBERS in
+        ReadingMeans k Answer message.now (told (parts_of_answer k) result) }
+    ensures sections { let Are = AreSections P.NUMBERS Answer message.entry 0 in
+        IfOk result (λ a. Are (a.head ∷ a.values ∷ a.signals ∷ [])) }
 {
     let (head, at) = read_section(message, 0, HEAD_LENGTH)?;
     let (values, at) = read_section(message, at, values_length::<P>())?;
@@ -64,11 +64,12 @@ pub fn read_answer<P: Profile>(message: &[u8]) -> Result<AnswerSections<'_>, Fau
 
 /// Reads a message as a confirmation.
 pub fn read_confirmation<P: Profile>(message: &[u8]) -> Result<ConfirmationSections<'_>, Fault>
-    ensures outcome { told parts_of_confirmation result ≡ reading P.NUMBERS Confirmation message.now }
-    ensures fault { result_err result ≡ reading_fault P.NUMBERS Confirmation message.now }
-    ensures means { ReadingMeans P.NUMBERS Confirmation message.now (told parts_of_confirmation result) }
-    ensures sections { IfOk result (λ c. IsConfirmation message.entry c) }
-    ensures writes_back { IfOk result (λ c. encoded P.NUMBERS (parts_of_confirmation c) ≡ message.now) }
+    ensures outcome { let k = P.NUMBERS in
+        told parts_of_confirmation result ≡ reading k Confirmation message.now }
+    ensures means { let k = P.NUMBERS in
+        ReadingMeans k Confirmation message.now (told parts_of_confirmation result) }
+    ensures sections { let Are = AreSections P.NUMBERS Confirmation message.entry 0 in
+        IfOk result (λ c. Are (c.head ∷ [])) }
 {
     let (head, at) = read_section(message, 0, HEAD_LENGTH)?;
     check_end(message, at)?;
@@ -84,9 +85,9 @@ fn read_section<'m>(
 ) -> Result<(Section<'m>, usize), Fault>
     requires { at ≤ length message.now }
     ensures fault { result_err result ≡ section_fault at many message.now }
-    ensures stretch { IfOk result (λ s. IsStretch message.entry s.0 (at + 2) many) }
+    ensures stretch { IfOk result (λ s. IsStretch message.entry s.0 (at + COUNT_LENGTH) many) }
     ensures long { IfOk result (λ s. length s.0.bytes.now ≡ many) }
-    ensures end { IfOk result (λ s. s.1 ≡ at + 2 + many) }
+    ensures end { IfOk result (λ s. s.1 ≡ at + COUNT_LENGTH + many) }
 {
     let [low, high, bytes @ ..] = &message[at..] else {
         return Err(Fault::WrongShape(at));
@@ -94,7 +95,7 @@ fn read_section<'m>(
     if usize::from(u16::from_le_bytes([*low, *high])) != many {
         return Err(Fault::WrongShape(at));
     }
-    let offset = at + 2;
+    let offset = at + COUNT_LENGTH;
     if bytes.len() < many {
         return Err(Fault::WrongShape(offset));
     }
@@ -115,7 +116,7 @@ fn check_end(message: &[u8], at: usize) -> Result<(), Fault>
 
 /// The round that the head tells, if its other bytes are those of the kind and the profile.
 fn read_head<P: Profile>(kind: Kind, head: &[u8]) -> Result<u32, Fault>
-    requires { length head.now ≡ 7 }
+    requires { length head.now ≡ HEAD_LENGTH }
     ensures fault { result_err result ≡ head_fault P.NUMBERS kind head.now }
     ensures round { IfOk result (λ round. round ≡ round_in head.now) }
 {
@@ -123,23 +124,24 @@ fn read_head<P: Profile>(kind: Kind, head: &[u8]) -> Result<u32, Fault>
         unreachable!();
     };
     if *kind_byte != kind.byte() {
-        return Err(Fault::WrongHead(2));
+        return Err(Fault::WrongHead(COUNT_LENGTH));
     }
     if *numbers_byte != P::NUMBERS.numbers_byte {
-        return Err(Fault::WrongHead(3));
+        return Err(Fault::WrongHead(COUNT_LENGTH + 1));
     }
     if *reconciler_byte != P::NUMBERS.reconciler_byte {
-        return Err(Fault::WrongHead(4));
+        return Err(Fault::WrongHead(COUNT_LENGTH + 2));
     }
     Ok(u32::from_le_bytes([*r0, *r1, *r2, *r3]))
 }
 
-/// That no bit is set after those of n signals, which begin at an offset: the last byte may have some.
+/// That no bit is set after those of n signals, which begin at an offset: the last byte may have
+/// some.
 fn check_spare_bits<P: Profile>(offset: usize, signals: &[u8]) -> Result<(), Fault>
     requires long { length signals.now ≡ signals_length P.NUMBERS }
     requires inside { offset + length signals.now < 2 ^ 64 }
-    ensures { let k = P.NUMBERS in
-        result_err result ≡ spare_bit_fault k.n k.signal_width offset (signals_length k) signals.now }
+    ensures { let k = P.NUMBERS in let many = signals_length k in
+        result_err result ≡ spare_bit_fault k.n k.signal_width offset many signals.now }
 {
     let last = signals.len() - 1;
     let used = P::NUMBERS.n * P::NUMBERS.signal_width as usize - 8 * last;

@@ -6,16 +6,17 @@ ghost use Rattle.packing.specs.Packing.{AllFit, packed};
 ghost use Rattle.message.specs.Messages.{low_first, section};
 ghost use Rattle.message.specs.Sections.{written_at};
 
+use crate::fixed_lengths::COUNT_LENGTH;
 use packing::Fields;
 
 /// Writes the count of a section's bytes at `at`. The result is where the bytes begin.
 fn write_count(out: &mut [u8], at: usize, count: usize) -> usize
-    requires inside { at + 2 ≤ length out.old }
+    requires inside { at + COUNT_LENGTH ≤ length out.old }
     requires counted { count < 2 ^ 16 }
-    ensures end { result ≡ at + 2 }
-    ensures writes { out.new ≡ written_at at (low_first 2 count) out.old }
+    ensures end { result ≡ at + COUNT_LENGTH }
+    ensures writes { out.new ≡ written_at at (low_first COUNT_LENGTH count) out.old }
 {
-    let start = at + 2;
+    let start = at + COUNT_LENGTH;
     out[at..start].copy_from_slice(&(count as u16).to_le_bytes());
     start
 }
@@ -23,9 +24,9 @@ fn write_count(out: &mut [u8], at: usize, count: usize) -> usize
 /// Writes a section at `at`, its count and its bytes. The result is where the section ends.
 #[tactic(auto, using(packing::proofs::Splitting::bytes_fit))]
 pub(crate) fn write_section(out: &mut [u8], at: usize, contents: &[u8]) -> usize
-    requires inside { at + 2 + length contents.now ≤ length out.old }
+    requires inside { at + COUNT_LENGTH + length contents.now ≤ length out.old }
     requires counted { length contents.now < 2 ^ 16 }
-    ensures end { result ≡ at + 2 + length contents.now }
+    ensures end { result ≡ at + COUNT_LENGTH + length contents.now }
     ensures writes { out.new ≡ written_at at (section contents.now) out.old }
     ensures bytes { AllFit 8 contents.now }
 {
@@ -37,11 +38,12 @@ pub(crate) fn write_section(out: &mut [u8], at: usize, contents: &[u8]) -> usize
 
 /// The same for numbers, which are packed into the section's own stretch of `out`.
 pub(crate) fn pack_section(out: &mut [u8], at: usize, bytes: usize, fields: Fields<'_>) -> usize
-    requires long { bytes ≡ packed_length (length fields.numbers.now) fields.width.bits }
-    requires inside { at + 2 + bytes ≤ length out.old }
+    requires long { bytes ≡ packed_length (length fields.numbers) fields.width }
+    requires inside { at + COUNT_LENGTH + bytes ≤ length out.old }
     requires counted { bytes < 2 ^ 16 }
-    ensures end { result ≡ at + 2 + bytes }
-    ensures writes { out.new ≡ written_at at (section (packed fields.entry.width.bits fields.entry.numbers.now)) out.old }
+    ensures end { result ≡ at + COUNT_LENGTH + bytes }
+    ensures writes { let contents = packed fields.entry.width fields.entry.numbers in
+        out.new ≡ written_at at (section contents) out.old }
 {
     let start = write_count(out, at, bytes);
     let end = start + bytes;

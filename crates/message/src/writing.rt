@@ -1,10 +1,8 @@
 //! Writing messages from their parts.
 
-ghost use Rattle.std.specs.Prelude.{◌≡◌, OnOk, Ok, length};
+ghost use Rattle.std.specs.Prelude.{◌≡◌, length};
 ghost use Rattle.ring.specs.Faults.{after};
-ghost use Rattle.message.specs.Messages.{encoded, kind_of};
-ghost use Rattle.message.specs.Parts.{offer_of, answer_of, confirmation_of};
-ghost use Rattle.message.specs.Reading.{reading};
+ghost use Rattle.message.specs.Messages.{encoded};
 ghost use Rattle.message.specs.Writing.{write_outcome};
 ghost use Rattle.message.specs.WritingLaws.{WriteMeans};
 
@@ -18,16 +16,14 @@ use crate::section_writing::{pack_section, write_section};
 use crate::widths::{signals_width, values_width};
 use packing::Fields;
 use profile::Profile;
-use ring::Fault;
+use ring::{Fault, place};
 
 impl Offer<'_> {
     /// Writes the offer of these parts into `out`, or leaves it as it was.
     pub fn write<P: Profile>(self, out: &mut [u8]) -> Result<(), Fault>
-        ensures outcome { result ≡ write_outcome P.NUMBERS (offer_of self.entry) (length out.old) }
-        ensures means { WriteMeans P.NUMBERS (offer_of self.entry) (length out.old) result }
-        ensures writes { out.new ≡ after result (encoded P.NUMBERS (offer_of self.entry)) out.old }
-        ensures reads_back { let message = offer_of self.entry in
-            OnOk result (reading P.NUMBERS (kind_of message) out.new ≡ Ok message) }
+        ensures outcome { result ≡ write_outcome P.NUMBERS self.entry (length out.old) }
+        ensures means { WriteMeans P.NUMBERS self.entry (length out.old) result }
+        ensures writes { out.new ≡ after result (encoded P.NUMBERS self.entry) out.old }
     {
         let Offer {
             round,
@@ -35,10 +31,10 @@ impl Offer<'_> {
             values,
         } = self;
         if values.len() != P::NUMBERS.n {
-            return Err(Fault::WrongLength(1));
+            return Err(Fault::WrongLength(place::VALUES));
         }
         if out.len() != offer_length::<P>() {
-            return Err(Fault::WrongLength(4));
+            return Err(Fault::WrongLength(place::OUTPUT));
         }
         let values = Fields::check(values_width::<P>(), values).map_err(Fault::OutOfRange)?;
         let at = write_section(out, 0, &head::<P>(Kind::Offer, round));
@@ -51,11 +47,9 @@ impl Offer<'_> {
 impl Answer<'_> {
     /// Writes the answer of these parts into `out`, or leaves it as it was.
     pub fn write<P: Profile>(self, out: &mut [u8]) -> Result<(), Fault>
-        ensures outcome { result ≡ write_outcome P.NUMBERS (answer_of self.entry) (length out.old) }
-        ensures means { WriteMeans P.NUMBERS (answer_of self.entry) (length out.old) result }
-        ensures writes { out.new ≡ after result (encoded P.NUMBERS (answer_of self.entry)) out.old }
-        ensures reads_back { let message = answer_of self.entry in
-            OnOk result (reading P.NUMBERS (kind_of message) out.new ≡ Ok message) }
+        ensures outcome { result ≡ write_outcome P.NUMBERS self.entry (length out.old) }
+        ensures means { WriteMeans P.NUMBERS self.entry (length out.old) result }
+        ensures writes { out.new ≡ after result (encoded P.NUMBERS self.entry) out.old }
     {
         let Answer {
             round,
@@ -64,13 +58,13 @@ impl Answer<'_> {
         } = self;
         let n = P::NUMBERS.n;
         if values.len() != n {
-            return Err(Fault::WrongLength(1));
+            return Err(Fault::WrongLength(place::VALUES));
         }
         if signals.len() != n {
-            return Err(Fault::WrongLength(2));
+            return Err(Fault::WrongLength(place::SIGNALS));
         }
         if out.len() != answer_length::<P>() {
-            return Err(Fault::WrongLength(4));
+            return Err(Fault::WrongLength(place::OUTPUT));
         }
         let values = Fields::check(values_width::<P>(), values).map_err(Fault::OutOfRange)?;
         let width = signals_width::<P>();
@@ -85,14 +79,12 @@ impl Answer<'_> {
 impl Confirmation {
     /// Writes the confirmation of this round into `out`, or leaves it as it was.
     pub fn write<P: Profile>(self, out: &mut [u8]) -> Result<(), Fault>
-        ensures outcome { result ≡ write_outcome P.NUMBERS (confirmation_of self) (length out.old) }
-        ensures means { WriteMeans P.NUMBERS (confirmation_of self) (length out.old) result }
-        ensures writes { out.new ≡ after result (encoded P.NUMBERS (confirmation_of self)) out.old }
-        ensures reads_back { let message = confirmation_of self in
-            OnOk result (reading P.NUMBERS (kind_of message) out.new ≡ Ok message) }
+        ensures outcome { result ≡ write_outcome P.NUMBERS self (length out.old) }
+        ensures means { WriteMeans P.NUMBERS self (length out.old) result }
+        ensures writes { out.new ≡ after result (encoded P.NUMBERS self) out.old }
     {
         if out.len() != confirmation_length() {
-            return Err(Fault::WrongLength(4));
+            return Err(Fault::WrongLength(place::OUTPUT));
         }
         write_section(out, 0, &head::<P>(Kind::Confirmation, self.round));
         Ok(())

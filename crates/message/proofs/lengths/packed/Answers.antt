@@ -7,9 +7,9 @@ use Rattle.message.proofs.lengths.packed.Goals as goal
 pub overflow_cast-result : goal.overflow_cast-result
 overflow_cast-result g c =
     let few = subst (λ (s : Numbers). s.n ≤ 1024) (sym c.NUMBERS.ensures) (n_most _ g.met.P.Profile.lawful.in_range) in
-    omega (arith, packed_length_most _ c.args.width.bits few c.args.width.at_most)
+    omega (arith, packed_length_most _ c.args.width few c.requires)
 
 pub returns-clause-bound : goal.returns-clause-bound
 returns-clause-bound g c =
     let few = subst (λ (s : Numbers). s.n ≤ 1024) (sym c.NUMBERS.ensures) (n_most _ g.met.P.Profile.lawful.in_range) in
-    omega (arith, packed_length_most _ c.args.width.bits few c.args.width.at_most)
+    omega (arith, packed_length_most _ c.args.width few c.requires)
