@@ -18,25 +18,25 @@ bits_some q h =
 module _ (s : Sampler) (bytes : List ℕ) where
   -- what is kept of a list of groups
   abbrev of_groups : List ℕ → List ℕ
-  of_groups xs = filter (λ x. ltb x s.modulus.q) (map (λ x. x % 2 ^ s.bits) xs)
+  of_groups xs = filter (λ x. ltb x s.q) (map (λ x. x % 2 ^ s.bits) xs)
 
-  kept_is : kept s.modulus.q bytes ≡ of_groups (groups s.bytes bytes)
+  kept_is : kept s.q bytes ≡ of_groups (groups s.bytes bytes)
   unfolding kept candidates
   kept_is = rw (s.size, s.width) refl
 
-  pub kept_none : length bytes < s.bytes → kept s.modulus.q bytes ≡ []
+  pub kept_none : length bytes < s.bytes → kept s.q bytes ≡ []
   kept_none short = kept_is ∙ ap of_groups (groups_none s.bytes bytes short)
 
 module _ (s : Sampler) (bytes : List ℕ) (number : ℕ) (rest : List ℕ) (group : WholeGroup s.bytes bytes number rest) where
   some : 0 < s.bytes
-  some = omega (arith, s.size, s.width, bits_some s.modulus.q (omega (arith, s.modulus.at_least)))
+  some = omega (arith, s.size, s.width, bits_some s.q s.least)
 
   module _ (x : ℕ) (is : x ≡ number % 2 ^ s.bits) where
-    kept_step : kept s.modulus.q bytes ≡ cond (ltb x s.modulus.q) (x ∷ kept s.modulus.q rest) (kept s.modulus.q rest)
+    kept_step : kept s.q bytes ≡ cond (ltb x s.q) (x ∷ kept s.q rest) (kept s.q rest)
     kept_step = rw (kept_is s bytes, kept_is s rest, is, group.value, group.after) (ap (of_groups s bytes) (groups_more s.bytes bytes some group.whole))
 
-    pub kept_yes : x < s.modulus.q → kept s.modulus.q bytes ≡ x ∷ kept s.modulus.q rest
-    kept_yes below = kept_step ∙ cond-true _ _ _ (lt-ltb x s.modulus.q below)
+    pub kept_yes : x < s.q → kept s.q bytes ≡ x ∷ kept s.q rest
+    kept_yes below = kept_step ∙ cond-true _ _ _ (lt-ltb x s.q below)
 
-    pub kept_no : s.modulus.q ≤ x → kept s.modulus.q bytes ≡ kept s.modulus.q rest
-    kept_no above = kept_step ∙ cond-false _ _ _ (le-ltb x s.modulus.q above)
+    pub kept_no : s.q ≤ x → kept s.q bytes ≡ kept s.q rest
+    kept_no above = kept_step ∙ cond-false _ _ _ (le-ltb x s.q above)

@@ -34,12 +34,12 @@ derive_means n q bytes places =
     (λ few. (fit, refl, leb-false _ _ few)))
     (λ other. (eqb-false _ _ other, refl))
 
--- what an answer that is the defined one says
-pub outcome_means : (n q : ℕ) (bytes : List ℕ) (places : ℕ) (answer : Result (Unit {0}) Fault) → answer ≡ derive_outcome n q bytes places → DeriveMeans n q bytes places answer
-outcome_means n q bytes places answer is = subst (DeriveMeans n q bytes places) (sym is) (derive_means n q bytes places)
+-- what an outcome that is the defined one says
+pub outcome_means : (n q : ℕ) (bytes : List ℕ) (places : ℕ) (outcome : Result (Unit {0}) Fault) → outcome ≡ derive_outcome n q bytes places → DeriveMeans n q bytes places outcome
+outcome_means n q bytes places outcome is = subst (DeriveMeans n q bytes places) (sym is) (derive_means n q bytes places)
 
--- an accepted answer leaves an element
-pub accepted_is_element : (n q : ℕ) (bytes : List ℕ) (places : ℕ) (answer : Result (Unit {0}) Fault) (old new : List ℕ) → answer ≡ derive_outcome n q bytes places → new ≡ after answer (derived n q bytes) old → OnOk answer (IsElement n q new)
+-- an accepted derivation leaves an element
+pub accepted_is_element : (n q : ℕ) (bytes : List ℕ) (places : ℕ) (outcome : Result (Unit {0}) Fault) (old new : List ℕ) → outcome ≡ derive_outcome n q bytes places → new ≡ after outcome (derived n q bytes) old → OnOk outcome (IsElement n q new)
 accepted_is_element n q bytes places (Ok _) old new is written = subst (IsElement n q) (sym written) (outcome_means n q bytes places (Ok _) is).1
 accepted_is_element n q bytes places (Err _) old new is written = tt
 

@@ -7,6 +7,7 @@ use Rattle.keccak.specs.Sponge.{little_endian}
 use Rattle.ring.specs.Faults.{checked}
 use Rattle.ring.specs.declared.fault.Fault.{Fault}
 use Rattle.ring.specs.declared.fault.Fault.TheVariants.{WrongLength, SourceSpent}
+use Rattle.ring.specs.declared.place.TheConstants.{OUTPUT}
 
 -- how many bits a number needs: its binary digits
 unfoldable pub bits : ℕ → ℕ
@@ -40,9 +41,10 @@ derived n q bytes = take n (kept q bytes)
 abbrev pub keep_outcome : ℕ → List ℕ → Result (Unit {0}) Fault
 keep_outcome n numbers = checked (nat_le n (length numbers)) (SourceSpent (length numbers)) (Ok tt)
 
--- what a derivation into an output of so many places answers
+-- the outcome of a derivation into an output of so many places
 abbrev pub derive_outcome : ℕ → ℕ → List ℕ → ℕ → Result (Unit {0}) Fault
-derive_outcome n q bytes places = checked (places == n) (WrongLength 4) (keep_outcome n (kept q bytes))
+derive_outcome n q bytes places =
+    checked (places == n) (WrongLength OUTPUT) (keep_outcome n (kept q bytes))
 
 -- ---- the group at the front of a list
 

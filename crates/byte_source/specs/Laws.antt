@@ -3,14 +3,17 @@ use Rattle.std.specs.Prelude.{◌≡◌, ◌≢◌, ℕ, ◌-◌, ◌<◌, ◌�
 use Rattle.std.specs.Prelude.{List, [], ◌∷◌, ◌++◌, length}
 use Rattle.ring.specs.Elements.{IsElement}
 use Rattle.ring.specs.declared.fault.Fault.{Fault}
-use Rattle.ring.specs.declared.fault.Fault.TheVariants.{WrongLength, OutOfRange, SumTooLarge, CoinOutOfRange, SourceSpent}
+use Rattle.ring.specs.declared.fault.Fault.TheVariants.{WrongLength, OutOfRange, SumTooLarge}
+use Rattle.ring.specs.declared.fault.Fault.TheVariants.{CoinOutOfRange, SourceSpent}
+use Rattle.ring.specs.declared.place.TheConstants.{OUTPUT}
 use Rattle.byte_source.specs.Derivation.{bits, bytes_for, kept, derived, derive_outcome}
 
--- what each answer says: that there is an element, or why there is none
+-- what each outcome says: that there is an element, or why there is none
 abbrev pub DeriveMeans : (n q : ℕ) (bytes : List ℕ) (places : ℕ) → Result (Unit {0}) Fault → Type 0
 DeriveMeans n q bytes places (Ok _) = (places ≡ n) × IsElement n q (derived n q bytes)
-DeriveMeans n q bytes places (Err (WrongLength place)) = (places ≢ n) × (place ≡ 4)
-DeriveMeans n q bytes places (Err (SourceSpent count)) = (places ≡ n) × (count ≡ length (kept q bytes)) × (count < n)
+DeriveMeans n q bytes places (Err (WrongLength place)) = (places ≢ n) × (place ≡ OUTPUT)
+DeriveMeans n q bytes places (Err (SourceSpent count)) =
+    (places ≡ n) × (count ≡ length (kept q bytes)) × (count < n)
 DeriveMeans n q bytes places (Err (OutOfRange i)) = ⊥
 DeriveMeans n q bytes places (Err (SumTooLarge i)) = ⊥
 DeriveMeans n q bytes places (Err (CoinOutOfRange i)) = ⊥
@@ -36,4 +39,5 @@ pub record DerivationValues : Type 0 where
   pub groups_s : Groups 12289 14 2
   pub groups_w : Groups 8380417 23 3
   pub element_t :
-      derived 4 257 (0xff ∷ 0xff ∷ 0x64 ∷ 0x00 ∷ 0xc8 ∷ 0x00 ∷ 0x05 ∷ 0x00 ∷ 0x00 ∷ 0x00 ∷ []) ≡ 100 ∷ 200 ∷ 5 ∷ 0 ∷ []
+      derived 4 257 (0xff ∷ 0xff ∷ 0x64 ∷ 0x00 ∷ 0xc8 ∷ 0x00 ∷ 0x05 ∷ 0x00 ∷ 0x00 ∷ 0x00 ∷ [])
+      ≡ 100 ∷ 200 ∷ 5 ∷ 0 ∷ []

@@ -2,6 +2,6 @@
 use Rattle.std.specs.Prelude.{ℕ, List, drop}
 use Rattle.byte_source.specs.declared.source.ByteSource.{Ghosts}
 
--- the bytes of the list that is being read, from the position on
+-- the bytes of the stream from the position on
 abbrev pub ahead : {S : Type 0} → Ghosts S → S → List ℕ
-ahead ghosts source = drop (ghosts.position source) (ghosts.reading source)
+ahead ghosts source = drop (ghosts.position source) (ghosts.stream source)

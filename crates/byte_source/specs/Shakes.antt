@@ -1,23 +1,26 @@
--- What a source of SHAKE128 means, and where it is.
+-- What a source of SHAKE128 expands a seed to, and where it is.
 use Rattle.std.specs.Prelude.{ℕ, ◌+◌, ◌-◌, ◌*◌, List, []}
 use Rattle.std.specs.Option.{option_map_or}
 use Rattle.keccak.specs.Sponge.{shake128}
 use Rattle.byte_source.specs.declared.shake.ShakeSource.{ShakeSource}
 use Rattle.byte_source.specs.declared.stream.Stream.{Stream}
 
--- 24 blocks of 168 bytes
+-- what a seed expands to: 24 blocks of 168 bytes
+abbrev pub expanded : List ℕ → List ℕ
+expanded seed = shake128 seed 4032
+
 abbrev pub stream_bytes : Stream → List ℕ
-stream_bytes stream = shake128 stream.seed.value 4032
+stream_bytes stream = expanded stream.seed.value
 
 -- all the bytes but those of the blocks to come, and those of the last block that are still to be given
 abbrev pub stream_position : Stream → ℕ
 stream_position stream = 4032 - (168 * stream.left + (168 - stream.offset))
 
-abbrev pub shake_meaning : ShakeSource → List ℕ → List ℕ
-shake_meaning source seed = shake128 seed 4032
+abbrev pub shake_expansion : ShakeSource → List ℕ → List ℕ
+shake_expansion source seed = expanded seed
 
-abbrev pub shake_reading : ShakeSource → List ℕ
-shake_reading source = option_map_or stream_bytes source.stream []
+abbrev pub shake_stream : ShakeSource → List ℕ
+shake_stream source = option_map_or stream_bytes source.stream []
 
 abbrev pub shake_position : ShakeSource → ℕ
 shake_position source = option_map_or stream_position source.stream 0

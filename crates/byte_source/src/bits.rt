@@ -3,7 +3,7 @@
 ghost use Rattle.std.specs.Prelude.{◌≡◌, ◌%◌, ◌^◌, ◌<◌};
 ghost use Rattle.byte_source.specs.Derivation.{bits, IsBitCount};
 
-/// How many bits a number needs.
+/// How many bits a number needs: none for 0, and else one more than the place of its highest 1.
 pub fn bit_count(m: u32) -> u32
     ensures value { result ≡ bits m }
     ensures is_bit_count { IsBitCount m result }

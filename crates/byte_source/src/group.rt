@@ -9,9 +9,10 @@ use crate::source::ByteSource;
 /// The number that the next bytes write, the lowest first; nothing where there are not so many.
 pub(crate) fn next_number<S: ByteSource>(source: &mut S, bytes: u32) -> Option<u32>
     requires { bytes ≤ 4 }
-    ensures same_meaning { S.meaning source.new ≡ S.meaning source.old }
-    ensures reads { S.reading source.new ≡ S.reading source.old }
-    ensures gives { GivesGroup bytes (ahead S.ByteSource source.old) result (ahead S.ByteSource source.new) }
+    ensures same_expansion { S.expansion source.new ≡ S.expansion source.old }
+    ensures same_stream { S.stream source.new ≡ S.stream source.old }
+    ensures gives { let old = ahead S.ByteSource source.old in
+        GivesGroup bytes old result (ahead S.ByteSource source.new) }
 {
     let mut number = 0;
     for i in 0..bytes {

@@ -15,6 +15,6 @@ mod theorems;
 pub use bits::bit_count;
 pub use derivation::derive;
 pub use shake::ShakeSource;
-pub use byte_source::ByteSource;
+pub use source::{ByteSource, SEED_LENGTH};
 pub use tape::Tape;
 pub use theorems::{derivation_laws, derivation_values};

@@ -1,8 +1,9 @@
 //! Numbers below q, taken from a source's bytes.
 
-ghost use Rattle.std.specs.Prelude.{◌≡◌, ◌-◌, ◌≤◌, ◌∷◌, [], length, MatchOption, OnOk};
+ghost use Rattle.std.specs.Prelude.{◌≡◌, ◌-◌, ◌<◌, ◌≤◌, ◌∷◌, [], length, MatchOption, OnOk};
 ghost use Rattle.ring.specs.Faults.{after};
-ghost use Rattle.byte_source.specs.Derivation.{bits as bits_of, bytes_for, kept, derived, keep_outcome};
+ghost use Rattle.byte_source.specs.Derivation.{bits as bits_of, bytes_for, kept, derived};
+ghost use Rattle.byte_source.specs.Derivation.{keep_outcome};
 ghost use Rattle.byte_source.specs.Reading.{ahead};
 
 use crate::bits::{bit_count, low_bits};
@@ -10,13 +11,14 @@ use crate::group::next_number;
 use crate::source::ByteSource;
 use ring::{Fault, Modulus};
 
-/// Reads groups of `bytes` bytes, and keeps the low `bits` bits of each where they are below the modulus.
+/// Reads groups of `bytes` bytes, and keeps the low `bits` bits of each where they are below q.
 #[derive(Clone, Copy)]
 pub(crate) struct Sampler {
-    modulus: Modulus,
+    q: u32,
     bits: u32,
     bytes: u32,
-    ghost width: { bits ≡ bits_of (modulus.q - 1) },
+    ghost least: { 1 < q },
+    ghost width: { bits ≡ bits_of (q - 1) },
     ghost few: { bits ≤ 23 },
     ghost size: { bytes ≡ bytes_for bits },
 }
@@ -25,40 +27,41 @@ impl Sampler {
     /// Takes as many bits as q - 1 needs, and as many bytes as these bits need.
     #[tactic(auto, using(crate::proofs::BitCounts::bits_le))]
     pub(crate) fn below(modulus: Modulus) -> Self
-        ensures { result.modulus ≡ modulus }
+        ensures { result.q ≡ modulus }
     {
-        let bits = bit_count(modulus.value() - 1);
+        let q = modulus.value();
+        let bits = bit_count(q - 1);
         Sampler {
-            modulus,
+            q,
             bits,
             bytes: bits.div_ceil(8),
         }
     }
 
-    /// The next number that is kept, or nothing once the list is used up.
+    /// The next number that is kept, or nothing once the stream is used up.
     fn next<S: ByteSource>(self, source: &mut S) -> Option<u32>
-        ensures same_meaning { S.meaning source.new ≡ S.meaning source.old }
-        ensures same_list { S.reading source.new ≡ S.reading source.old }
-        ensures gives { let all = kept self.modulus.q (ahead S.ByteSource source.old) in
-            MatchOption result (all ≡ []) (λ x. all ≡ x ∷ kept self.modulus.q (ahead S.ByteSource source.new)) }
+        ensures same_expansion { S.expansion source.new ≡ S.expansion source.old }
+        ensures same_stream { S.stream source.new ≡ S.stream source.old }
+        ensures gives { let all = kept self.q (ahead S.ByteSource source.old) in
+            MatchOption result (all ≡ [])
+            (λ x. all ≡ x ∷ kept self.q (ahead S.ByteSource source.new)) }
     {
-        let q = self.modulus.value();
         loop {
             let number = low_bits(next_number(source, self.bytes)?, self.bits);
-            if number < q {
+            if number < self.q {
                 return Some(number);
             }
         }
     }
 
-    /// Fills `numbers` with the first ones that the list ahead gives, or says how many it gives.
+    /// Fills `numbers` with the first ones that the bytes ahead give, or says how many they give.
     fn fill<S: ByteSource>(self, source: &mut S, numbers: &mut [u32]) -> Result<(), Fault>
-        ensures same_meaning { S.meaning source.new ≡ S.meaning source.old }
-        ensures same_list { S.reading source.new ≡ S.reading source.old }
-        ensures outcome { let all = kept self.modulus.q (ahead S.ByteSource source.old) in
+        ensures same_expansion { S.expansion source.new ≡ S.expansion source.old }
+        ensures same_stream { S.stream source.new ≡ S.stream source.old }
+        ensures outcome { let all = kept self.q (ahead S.ByteSource source.old) in
             result ≡ keep_outcome (length numbers.old) all }
         ensures fills { let bytes = ahead S.ByteSource source.old in
-            OnOk result (numbers.new ≡ derived (length numbers.old) self.modulus.q bytes) }
+            OnOk result (numbers.new ≡ derived (length numbers.old) self.q bytes) }
     {
         for (count, number) in numbers.iter_mut().enumerate() {
             *number = self.next(source).ok_or(Fault::SourceSpent(count))?;
@@ -66,7 +69,8 @@ impl Sampler {
         Ok(())
     }
 
-    /// Fills `output` with those numbers, or leaves it as it was. They stand in `room` until all of them are there.
+    /// Fills `output` with those numbers, or leaves it as it was. They stand in `room` until all
+    /// of them are there.
     pub(crate) fn fill_through<S: ByteSource>(
         self,
         source: &mut S,
@@ -74,12 +78,12 @@ impl Sampler {
         output: &mut [u32],
     ) -> Result<(), Fault>
         requires { length output.old ≤ length room.old }
-        ensures same_meaning { S.meaning source.new ≡ S.meaning source.old }
-        ensures same_list { S.reading source.new ≡ S.reading source.old }
-        ensures outcome { let all = kept self.modulus.q (ahead S.ByteSource source.old) in
+        ensures same_expansion { S.expansion source.new ≡ S.expansion source.old }
+        ensures same_stream { S.stream source.new ≡ S.stream source.old }
+        ensures outcome { let all = kept self.q (ahead S.ByteSource source.old) in
             result ≡ keep_outcome (length output.old) all }
         ensures fills { let bytes = ahead S.ByteSource source.old in
-            output.new ≡ after result (derived (length output.old) self.modulus.q bytes) output.old }
+            output.new ≡ after result (derived (length output.old) self.q bytes) output.old }
     {
         let numbers = &mut room[..output.len()];
         self.fill(source, numbers)?;

@@ -1,23 +1,24 @@
 //! A byte source that gives SHAKE128 of the seed.
 
 ghost use Rattle.std.specs.Prelude.{◌≡◌, ℕ, List, []};
-ghost use Rattle.keccak.specs.Sponge.{shake128};
-ghost use Rattle.byte_source.specs.Shakes.{shake_meaning, shake_reading, shake_position};
+ghost use Rattle.byte_source.specs.Shakes.{expanded};
+ghost use Rattle.byte_source.specs.Shakes.{shake_expansion, shake_stream, shake_position};
 
-use crate::source::ByteSource;
+use crate::source::{ByteSource, SEED_LENGTH};
 use crate::stream::Stream;
 
-/// Reads the stream of the last seed, of which there is none before the first.
+/// Expands a seed to the first 4032 bytes of its SHAKE128, 24 blocks, of which each is squeezed
+/// when its first byte is asked for. Gives nothing before it begins.
 #[derive(Drop)]
 pub struct ShakeSource {
     stream: Option<Stream>,
 }
 
 impl ShakeSource {
-    /// Has nothing to give before it begins.
+    /// A source that has not begun.
     pub fn new() -> Self
-        ensures means { (seed : List ℕ) → shake_meaning result seed ≡ shake128 seed 4032 }
-        ensures unread { shake_reading result ≡ [] }
+        ensures expands { (seed : List ℕ) → shake_expansion result seed ≡ expanded seed }
+        ensures unread { shake_stream result ≡ [] }
         ensures starts { shake_position result ≡ 0 }
     {
         ShakeSource { stream: None }
@@ -25,13 +26,13 @@ impl ShakeSource {
 }
 
 impl ByteSource for ShakeSource {
-    ghost meaning = { shake_meaning };
+    ghost expansion = { shake_expansion };
 
-    ghost reading = { shake_reading };
+    ghost stream = { shake_stream };
 
     ghost position = { shake_position };
 
-    fn begin(&mut self, seed: &[u8; 16]) {
+    fn begin(&mut self, seed: &[u8; SEED_LENGTH]) {
         self.stream = Some(Stream::of(seed));
     }
 

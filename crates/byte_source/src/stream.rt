@@ -4,17 +4,18 @@ ghost use Rattle.std.specs.Prelude.{◌≡◌, ◌-◌, ◌<◌, ◌≤◌};
 ghost use Rattle.keccak.specs.Laws.{permuted};
 ghost use Rattle.keccak.specs.Sponge.{absorbed, next_state, output_block};
 
+use crate::source::SEED_LENGTH;
 use keccak::{RATE, Shake128};
 use std::snapshot::Snapshot;
 
 /// The blocks of a stream.
 const BLOCKS: usize = 24;
 
-/// What a seed gives. `left` blocks are still to be squeezed, and of the last one that was squeezed the bytes from
-/// `offset` on are still to be given. Only clauses read `seed`.
+/// What a seed expands to. `left` blocks are still to be squeezed, and of the last one that was
+/// squeezed the bytes from `offset` on are still to be given. Only clauses read `seed`.
 #[derive(Drop)]
 pub(crate) struct Stream {
-    seed: Snapshot<[u8; 16]>,
+    seed: Snapshot<[u8; SEED_LENGTH]>,
     sponge: Shake128,
     block: [u8; RATE],
     offset: usize,
@@ -23,7 +24,8 @@ pub(crate) struct Stream {
     ghost inside: { offset ≤ 168 },
     ghost unread: { left ≡ 24 → offset ≡ 168 },
     ghost squeezed: { next_state sponge ≡ permuted (24 - left) (absorbed seed.value) },
-    ghost last: { left < 24 → block ≡ output_block (permuted (23 - left) (absorbed seed.value)) },
+    ghost last: { left < 24
+        → block ≡ output_block (permuted (23 - left) (absorbed seed.value)) },
 }
 
 impl Stream {
@@ -33,7 +35,7 @@ impl Stream {
 
     /// At the start: the seed is absorbed, and nothing is squeezed yet.
     #[tactic(auto, using(keccak::proofs::Streams::permuted_none))]
-    pub(crate) fn of(seed: &[u8; 16]) -> Self
+    pub(crate) fn of(seed: &[u8; SEED_LENGTH]) -> Self
         ensures seeded { result.seed.value ≡ seed.now }
         ensures starts { stream_position result ≡ 0 }
     {
@@ -63,7 +65,8 @@ impl Stream {
     /// The next byte, or nothing once the stream is used up.
     pub(crate) fn next(&mut self) -> Option<u8>
         ensures seeded { self.new.seed.value ≡ self.old.seed.value }
-        ensures gives { Gives (stream_bytes self.old) (stream_position self.old) result (stream_position self.new) }
+        ensures gives { let position = stream_position self.old in
+            Gives (stream_bytes self.old) position result (stream_position self.new) }
     {
         if self.offset == RATE {
             self.squeeze()?;

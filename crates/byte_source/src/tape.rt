@@ -4,25 +4,26 @@ ghost use Rattle.std.specs.Prelude.{◌≡◌, ◌-◌, ℕ, List, [], length, d
 ghost use Rattle.std.specs.Option.{ForSome};
 ghost use Rattle.std.specs.Slice.Iter.{iter_rest};
 
-use crate::source::ByteSource;
+use crate::source::{ByteSource, SEED_LENGTH};
 use std::slice::Iter;
 
-/// Gives nothing before it begins; then `ahead` goes over its bytes.
+/// Expands every seed to the bytes that it was made from. Gives nothing before it begins.
 #[derive(Drop)]
 pub struct Tape<'a> {
     bytes: &'a [u8],
     ahead: Option<Iter<'a, u8>>,
     // what is ahead is an end of the bytes
-    ghost is_end: { ForSome ahead (λ it. iter_rest it ≡ drop (length bytes.now - length (iter_rest it)) bytes.now) },
+    ghost is_end: { ForSome ahead (λ it.
+        iter_rest it ≡ drop (length bytes.now - length (iter_rest it)) bytes.now) },
 }
 
 impl<'a> Tape<'a> {
-    ghost use Rattle.byte_source.specs.Tapes.{tape_meaning, tape_reading, tape_position};
+    ghost use Rattle.byte_source.specs.Tapes.{tape_expansion, tape_stream, tape_position};
 
-    /// Has nothing to give before it begins.
+    /// A tape that has not begun.
     pub fn new(bytes: &'a [u8]) -> Self
-        ensures means { (seed : List ℕ) → tape_meaning result seed ≡ bytes.now }
-        ensures unread { tape_reading result ≡ [] }
+        ensures expands { (seed : List ℕ) → tape_expansion result seed ≡ bytes.now }
+        ensures unread { tape_stream result ≡ [] }
         ensures starts { tape_position result ≡ 0 }
     {
         Tape { bytes, ahead: None }
@@ -30,15 +31,15 @@ impl<'a> Tape<'a> {
 }
 
 impl<'a> ByteSource for Tape<'a> {
-    ghost use Rattle.byte_source.specs.Tapes.{tape_meaning, tape_reading, tape_position};
+    ghost use Rattle.byte_source.specs.Tapes.{tape_expansion, tape_stream, tape_position};
 
-    ghost meaning = { tape_meaning };
+    ghost expansion = { tape_expansion };
 
-    ghost reading = { tape_reading };
+    ghost stream = { tape_stream };
 
     ghost position = { tape_position };
 
-    fn begin(&mut self, _seed: &[u8; 16]) {
+    fn begin(&mut self, _seed: &[u8; SEED_LENGTH]) {
         self.ahead = Some(self.bytes.iter());
     }
 

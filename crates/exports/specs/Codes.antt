@@ -1,4 +1,4 @@
--- How an answer is told in one number of 64 bits.
+-- The code of an outcome: how it is told in one number of 64 bits.
 use Rattle.std.specs.Prelude.{ℕ, ◌+◌, ◌-◌, ◌*◌, ◌^◌, min, Ok, Err, Result}
 use Rattle.ring.specs.Faults.{number_of, place_of}
 use Rattle.ring.specs.declared.fault.Fault.{Fault}

@@ -1,5 +1,6 @@
 pub mod Codes
 pub mod ByProfile
+pub mod Seeds
 pub mod Elements
 pub mod Packed
 pub mod Writing

@@ -1,6 +1,6 @@
--- What the four exported functions of a profile answer, for the profile of an index.
+-- What the four exported functions of a profile give, for the profile of an index.
 use Rattle.std.specs.Prelude.{ℕ}
-use Rattle.profile.specs.Outcomes.{round_outcome, recover_outcome, reconcile_outcome, read_answer}
+use Rattle.profile.specs.Outcomes.{round_outcome, recover_outcome, reconcile_outcome, read_outcome}
 use Rattle.exports.specs.ByProfile.{by_profile}
 use Rattle.exports.specs.Codes.{value_code, pair_code, no_call}
 
@@ -18,4 +18,4 @@ reconcile_code profile x coin =
 
 abbrev pub read_code : (profile y signal : ℕ) → ℕ
 read_code profile y signal =
-    by_profile (λ numbers functions. value_code (read_answer numbers functions y signal)) no_call profile
+    by_profile (λ numbers functions. value_code (read_outcome numbers functions y signal)) no_call profile

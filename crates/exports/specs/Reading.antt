@@ -1,8 +1,10 @@
--- What the exported functions that read messages answer and leave.
-use Rattle.std.specs.Prelude.{ℕ, ◌==◌, List, [], length, Ok, Result}
+-- What the exported functions that read messages give and leave.
+use Rattle.std.specs.Prelude.{◌≡◌, ◌≢◌, ℕ, ◌==◌, List, [], length, Ok, Err, Result}
 use Rattle.ring.specs.Faults.{after_part, checked, followed, passed_up, told}
 use Rattle.ring.specs.declared.fault.Fault.{Fault}
-use Rattle.ring.specs.declared.fault.Fault.TheVariants.{WrongLength}
+use Rattle.ring.specs.declared.fault.Fault.TheVariants.{WrongLength, OutOfRange, SumTooLarge}
+use Rattle.ring.specs.declared.fault.Fault.TheVariants.{CoinOutOfRange, SourceSpent}
+use Rattle.ring.specs.declared.place.TheConstants.{VALUES, SIGNALS}
 use Rattle.profile.specs.declared.numbers.Numbers.{Numbers}
 use Rattle.message.specs.Messages.{Message, offer, answer, confirmation, round_of}
 use Rattle.message.specs.Reading.{reading}
@@ -19,7 +21,16 @@ use Rattle.exports.specs.Codes.{reading_code, no_call}
 abbrev pub room_outcome : Numbers → (argument room : ℕ) → Result (Unit {0}) Fault
 room_outcome k argument room = checked (room == k.n) (WrongLength argument) (Ok tt)
 
--- that test's answer and a message's, as answers that may refuse for either
+-- what each outcome of that test says
+abbrev pub RoomMeans : Numbers → (argument room : ℕ) → Result (Unit {0}) Fault → Type 0
+RoomMeans k argument room (Ok _) = room ≡ k.n
+RoomMeans k argument room (Err (WrongLength place)) = (room ≢ k.n) × (place ≡ argument)
+RoomMeans k argument room (Err (OutOfRange i)) = ⊥
+RoomMeans k argument room (Err (SumTooLarge i)) = ⊥
+RoomMeans k argument room (Err (CoinOutOfRange i)) = ⊥
+RoomMeans k argument room (Err (SourceSpent count)) = ⊥
+
+-- that test's outcome and a message's, as outcomes that may refuse for either
 abbrev pub room_checked : Numbers → (argument room : ℕ) → Result (Unit {0}) Refusal
 room_checked k argument room = passed_up refusals.Ring (room_outcome k argument room)
 
@@ -29,13 +40,14 @@ message_read k kind message = passed_up refusals.Message (reading k kind message
 -- the lengths of the buffers are tried before the message is looked at
 unfoldable pub offer_read : Numbers → (message : List ℕ) → (values_room : ℕ) → Result Message Refusal
 offer_read k message values_room =
-    followed (room_checked k 1 values_room)
+    followed (room_checked k VALUES values_room)
     (message_read k kinds.Offer message)
 
-unfoldable pub answer_read : Numbers → (message : List ℕ) → (values_room signals_room : ℕ) → Result Message Refusal
+unfoldable pub answer_read :
+    Numbers → (message : List ℕ) → (values_room signals_room : ℕ) → Result Message Refusal
 answer_read k message values_room signals_room =
-    followed (room_checked k 1 values_room)
-    (followed (room_checked k 2 signals_room)
+    followed (room_checked k VALUES values_room)
+    (followed (room_checked k SIGNALS signals_room)
     (message_read k kinds.Answer message))
 
 unfoldable pub confirmation_read : Numbers → (message : List ℕ) → Result Message Refusal
@@ -77,15 +89,21 @@ read_offer_values profile message values =
 
 abbrev pub read_answer_code : (profile : ℕ) → (message values signals : List ℕ) → ℕ
 read_answer_code profile message values signals =
-    by_profile (λ k _. reading_code (round_told (answer_read k message (length values) (length signals)))) no_call profile
+    by_profile
+    (λ k _. reading_code (round_told (answer_read k message (length values) (length signals))))
+    no_call profile
 
 abbrev pub read_answer_values : (profile : ℕ) → (message values signals : List ℕ) → List ℕ
 read_answer_values profile message values signals =
-    by_profile (λ k _. after_part values_of (answer_read k message (length values) (length signals)) values) values profile
+    by_profile
+    (λ k _. after_part values_of (answer_read k message (length values) (length signals)) values)
+    values profile
 
 abbrev pub read_answer_signals : (profile : ℕ) → (message values signals : List ℕ) → List ℕ
 read_answer_signals profile message values signals =
-    by_profile (λ k _. after_part signals_of (answer_read k message (length values) (length signals)) signals) signals profile
+    by_profile
+    (λ k _. after_part signals_of (answer_read k message (length values) (length signals)) signals)
+    signals profile
 
 abbrev pub read_confirmation_code : (profile : ℕ) → (message : List ℕ) → ℕ
 read_confirmation_code profile message =

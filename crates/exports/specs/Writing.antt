@@ -1,14 +1,10 @@
--- What the exported functions that write messages answer and leave, for the profile of an index.
-use Rattle.std.specs.Prelude.{ℕ, if◌then◌else◌, ◌==◌, List, length}
+-- What the exported functions that write messages give and leave, for the profile of an index.
+use Rattle.std.specs.Prelude.{ℕ, List, length}
 use Rattle.ring.specs.Faults.{after}
 use Rattle.message.specs.Messages.{Message, encoded}
 use Rattle.message.specs.Writing.{write_outcome}
 use Rattle.exports.specs.ByProfile.{by_profile}
 use Rattle.exports.specs.Codes.{done_code, no_call}
-
--- what is said of a seed, which has 16 bytes, or else `other`
-abbrev pub if_seed : {X : Type 0} → List ℕ → X → X → X
-if_seed seed says other = if length seed == 16 then says else other
 
 abbrev pub write_code : (profile : ℕ) → Message → (output : List ℕ) → ℕ
 write_code profile message output =
@@ -16,4 +12,6 @@ write_code profile message output =
 
 abbrev pub write_output : (profile : ℕ) → Message → (output : List ℕ) → List ℕ
 write_output profile message output =
-    by_profile (λ k _. after (write_outcome k message (length output)) (encoded k message) output) output profile
+    by_profile
+    (λ k _. after (write_outcome k message (length output)) (encoded k message) output)
+    output profile

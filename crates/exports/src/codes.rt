@@ -1,22 +1,25 @@
-//! How an answer is told in one number of 64 bits.
+//! The code of an outcome: how it is told in one number of 64 bits.
 
 ghost use Rattle.std.specs.Prelude.{◌≡◌, ℕ};
-ghost use Rattle.exports.specs.Codes.{outcome_code, code_of, fault_code, message_fault_code, pair_number, refusal_code};
+ghost use Rattle.exports.specs.Codes.{outcome_code, code_of, pair_number};
+ghost use Rattle.exports.specs.Codes.{fault_code, message_fault_code, refusal_code};
 
 use crate::refusal::Refusal;
 
-/// The answer where no call can be made: for a profile, a ring, a width or a seed that there is not.
+/// The code where no call can be made: for a profile, a ring, a width or a seed that there is not.
 pub(crate) const NO_CALL: u64 = 1 << 63;
 
-/// The answer to what is accepted and gives no value.
+/// The code of a call that is accepted and gives no value.
 pub const DONE: u64 = 0;
 
+/// The largest place that a code has room for; a larger one is told as this.
 const LARGEST_PLACE: u64 = (1 << 56) - 1;
 
-/// What one number of 64 bits can tell.
+/// What has a code.
 pub(crate) trait Coded {
     ghost code: { Self → ℕ };
 
+    /// The code, in 64 bits.
     fn code(self) -> u64
         ensures { result ≡ code self };
 }

@@ -5,8 +5,8 @@ ghost use Rattle.exports.specs.Elements.{Multiplied};
 use crate::codes::{Coded, NO_CALL};
 use multiplier::{Multiplier, QuotientRing, RowSum, Schoolbook};
 
-/// Multiplies in the ring of degree n and modulus q, if there is such a ring: by the schoolbook if `row_sum` is 0,
-/// and else by the row sum.
+/// Multiplies in the ring of degree n and modulus q, if there is such a ring: by the schoolbook if
+/// `row_sum` is 0, and else by the row sum. Without such a ring scratch stays as it was, too.
 pub fn exported_multiply(
     row_sum: u8,
     n: usize,
@@ -16,7 +16,8 @@ pub fn exported_multiply(
     scratch: &mut [u32],
     output: &mut [u32],
 ) -> u64
-    ensures { Multiplied row_sum n q left.now right.now scratch.old scratch.new output.old output.new result }
+    ensures { Multiplied row_sum n q left.now right.now
+        scratch.old scratch.new output.old output.new result }
 {
     let Some(ring) = QuotientRing::new(n, q) else {
         return NO_CALL;

@@ -1,5 +1,5 @@
-//! The functions that C and Rust can link, through the static library of exports_c: on numbers and slices, for tests and
-//! benchmarks.
+//! The functions that C and Rust can link, through the static library of exports_c: on numbers and
+//! slices, for tests and benchmarks. What each gives is a code, as docs/EXPORTS.md has it.
 
 #![tactic(auto)]
 

@@ -1,15 +1,15 @@
 //! Whether a vector holds of the library.
 
-ghost use Rattle.std.specs.Prelude.{◌≡◌, ◌≤◌, ◌↔◌, true, [], length, IfOk, IsTrue};
+ghost use Rattle.std.specs.Prelude.{◌≡◌, ◌≤◌, ◌↔◌, true, length, IfOk, IsTrue};
 ghost use Rattle.element.specs.Products.{product};
-ghost use Rattle.exports.specs.ByProfile.{by_profile};
 ghost use Rattle.keccak.specs.Sponge.{shake128};
-ghost use Rattle.byte_source.specs.Derivation.{derived};
-ghost use Rattle.vectors.specs.Holding.{OutputHolds, ProductHolds, DerivedHolds};
+ghost use Rattle.vectors.specs.declared.checks.TheConstants.{LARGEST_COUNT};
+ghost use Rattle.vectors.specs.Holding.{element_of, OutputHolds, ProductHolds, DerivedHolds};
 ghost use Rattle.vectors.specs.Holding.{RoundedHolds, ReconciledHolds, ReadHolds, Holds};
 
 use crate::line::Group;
 use anyhow::bail;
+use byte_source::SEED_LENGTH;
 use exports::{
     DONE, exported_derive_shake, exported_multiply, exported_read, exported_reconcile,
     exported_recover, exported_round, exported_shake128,
@@ -19,8 +19,9 @@ use std::alloc::Global;
 const MALFORMED: &str = "a line of the wrong length";
 
 /// The largest count that a line has: none of its lists is longer.
-const MOST: usize = 4096;
+const LARGEST_COUNT: usize = 4096;
 
+/// The numbers of a line as bytes, unless one is not.
 fn bytes(alloc: Global, numbers: &[u32]) -> anyhow::Result<Vec<u8>>
     ensures { IfOk result (λ v. v.items ≡ numbers.now) }
 {
@@ -30,11 +31,12 @@ fn bytes(alloc: Global, numbers: &[u32]) -> anyhow::Result<Vec<u8>>
         .try_collect(alloc)
 }
 
+/// A number of a line as a count, unless it is too large for one.
 fn count(number: u32) -> anyhow::Result<usize>
-    ensures { IfOk result (λ n. (n ≡ number) × (n ≤ 4096)) }
+    ensures { IfOk result (λ n. (n ≡ number) × (n ≤ LARGEST_COUNT)) }
 {
     let count = number as usize;
-    if count > MOST {
+    if count > LARGEST_COUNT {
         bail!(MALFORMED);
     }
     Ok(count)
@@ -124,16 +126,14 @@ fn check_product(alloc: Global, numbers: &[u32]) -> anyhow::Result<bool>
 /// Whether a seed gives an element, which the output then holds.
 #[tactic(auto, using(std::proofs::lemmas::Bool::Decides::nat_tests))]
 fn derives(profile: u8, seed: &[u8], output: &mut [u32]) -> bool
-    ensures { let element = by_profile (λ k _. derived k.n k.q (shake128 seed.now 4032)) [] profile in
-        result ≡ true → output.new ≡ element }
+    ensures { result ≡ true → output.new ≡ element_of profile seed.now }
 {
     exported_derive_shake(profile, seed, output) == DONE
 }
 
 /// Whether a seed gives the expected element.
 fn derives_to(profile: u8, seed: &[u8], expected: &[u32], output: &mut [u32]) -> bool
-    ensures { let element = by_profile (λ k _. derived k.n k.q (shake128 seed.now 4032)) [] profile in
-        result ≡ true → element ≡ expected.now }
+    ensures { result ≡ true → element_of profile seed.now ≡ expected.now }
 {
     derives(profile, seed, output) && &output[..] == expected
 }
@@ -146,10 +146,10 @@ fn check_derived(alloc: Global, numbers: &[u32]) -> anyhow::Result<bool>
         bail!(MALFORMED);
     };
     let n = count(*degree)?;
-    if rest.len() != 16 + n {
+    if rest.len() != SEED_LENGTH + n {
         bail!(MALFORMED);
     }
-    let (seed, expected) = rest.split_at(16);
+    let (seed, expected) = rest.split_at(SEED_LENGTH);
     let seed = bytes(alloc, seed)?;
     let mut output = vec![in alloc; 0u32; n]?;
     Ok(derives_to(u8::try_from(*profile)?, &seed, expected, &mut output))
@@ -188,6 +188,8 @@ fn check_read(numbers: &[u32]) -> anyhow::Result<bool>
     Ok(code == u64::from(*bit))
 }
 
+/// Whether the vector of a group that the numbers of a line state holds. An error if they are not
+/// such a vector.
 pub fn check(alloc: Global, group: Group, numbers: &[u32]) -> anyhow::Result<bool>
     ensures { IfOk result (λ holds. holds ≡ true → Holds group numbers.now) }
 {

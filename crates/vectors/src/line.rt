@@ -1,6 +1,6 @@
 //! A line of the input: a word for the group, then numbers.
 
-ghost use Rattle.std.specs.Prelude.{◌≡◌, ◌≢◌, ◌≤◌, ◌⊎◌, ◌↔◌, Ok, IfOk, IsTrue, codes};
+ghost use Rattle.std.specs.Prelude.{◌≡◌, ◌≢◌, ◌↔◌, Ok, Contains, IfOk, IsTrue, codes};
 ghost use Rattle.hex.specs.Hex.{decode_of};
 
 use anyhow::{Context, anyhow, bail};
@@ -8,10 +8,12 @@ use std::alloc::Global;
 use std::fmt;
 use std::str::FromStr;
 
+/// What the vector of a line is about, and with that which numbers the line has.
 #[derive(Clone, Copy, PartialEq, Eq, PartialOrd, Ord, Debug)]
 pub enum Group {
-    /// the bytes of a message and of its output, each after their count
+    /// the lengths of a message and of its SHAKE128, and the bytes of both, as NIST published them
     Published,
+    /// the same, of lengths at the edges of blocks
     Output,
     /// n, q, two elements and their product
     Product,
@@ -70,16 +72,20 @@ impl fmt::Display for Group {
     }
 }
 
+/// The vector of a line.
 #[derive(Drop)]
 pub struct Vector {
+    /// what it is about
     pub group: Group,
+    /// the numbers of the line
     pub numbers: Vec<u32>,
 }
 
+/// Whether a character is a hexadecimal digit, a small letter if it is a letter.
 fn is_lower_hex_digit(text: &u8) -> bool
-    ensures { IsTrue result ↔ (((48 ≤ text.now) × (text.now ≤ 57)) ⊎ ((97 ≤ text.now) × (text.now ≤ 102))) }
+    ensures { IsTrue result ↔ Contains (codes "0123456789abcdef") text.now }
 {
-    matches!(*text, b'0'..=b'9' | b'a'..=b'f')
+    b"0123456789abcdef".contains(text)
 }
 
 /// The bytes of a text in hexadecimal with small letters, of which `-` has none.
@@ -108,7 +114,7 @@ fn hash_numbers(alloc: Global, message: &[u8], output: &[u8]) -> anyhow::Result<
     Ok(numbers)
 }
 
-/// The vector that a line states, if it is no comment.
+/// The vector that a line states, if it is neither empty nor a comment.
 pub fn read_line(alloc: Global, text: &str) -> anyhow::Result<Option<Vector>> {
     let mut words = text.split_whitespace();
     let Some(first) = words.next() else {

@@ -1,5 +1,5 @@
-//! Checks outside vectors, one to a line of the input, and prints for each group how many there were.
-//! The first that does not hold ends the program with an error.
+//! Checks outside vectors, one to a line of the input, and prints for each group how many there
+//! were. The first that does not hold ends the program with an error.
 
 #![tactic(auto)]
 

@@ -13,13 +13,13 @@ loop-i-preserved g c =
     let inv = c.loop-i.invariant in
     let f = c.in_ok-byte.ensures in
     let b = c.in_ok-byte.byte in
-    let first : ahead s c.loop-i.source ≡ b ∷ ahead s c.next.new.self = byte_ahead _ _ _ _ _ f.reads f.gives in
+    let first : ahead s c.loop-i.source ≡ b ∷ ahead s c.next.new.self = byte_ahead _ _ _ _ _ f.same_stream f.gives in
     let same : c.from.result ≡ b = c.from.ensures in
     let byte : b < 256 = omega arith in
     let few : c.loop-i.i < 4 = omega arith in
     record {
-      same_meaning = f.same_meaning ∙ inv.same_meaning;
-      reads = f.reads ∙ inv.reads;
+      same_expansion = f.same_expansion ∙ inv.same_expansion;
+      same_stream = f.same_stream ∙ inv.same_stream;
       group = rw (same, or_byte c.loop-i.number b c.loop-i.i inv.low byte few) (group_more _ _ _ _ inv.group b _ first);
       low = rw same (or_byte_below c.loop-i.number b c.loop-i.i inv.low byte few);
     }

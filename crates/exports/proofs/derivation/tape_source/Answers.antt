@@ -1,6 +1,6 @@
--- A tape means its bytes for every seed.
+-- A tape expands every seed to its bytes.
 use Rattle.std.proofs.Common.{[]}
 use Rattle.exports.proofs.derivation.tape_source.Goals as goal
 
 pub returns : goal.returns
-returns c = c.new.ensures.means []
+returns c = c.new.ensures.expands []

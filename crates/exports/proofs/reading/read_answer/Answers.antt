@@ -5,7 +5,7 @@ use Rattle.exports.proofs.Stretches.{stretch_long}
 use Rattle.exports.proofs.reading.read_answer.Goals as goal
 
 pub unwrap-requires : goal.unwrap-requires
-unwrap-requires g c = let long = stretch_long c.in_ok-answer.ensures.sections.values in grind (arith, common_steps)
+unwrap-requires g c = let long = stretch_long c.in_ok-answer.ensures.sections.1.0 in grind (arith, common_steps)
 
 pub unwrap-requires-2 : goal.unwrap-requires-2
-unwrap-requires-2 g c = let long = stretch_long c.in_ok-answer.ensures.sections.signals in grind (arith, common_steps)
+unwrap-requires-2 g c = let long = stretch_long c.in_ok-answer.ensures.sections.1.1.0 in grind (arith, common_steps)

@@ -5,7 +5,7 @@ use Rattle.exports.proofs.Stretches.{stretch_long}
 use Rattle.exports.proofs.reading.read_offer.Goals as goal
 
 pub unwrap-requires : goal.unwrap-requires
-unwrap-requires g c = let long = stretch_long c.in_ok-offer.ensures.sections.values in grind (arith, common_steps)
+unwrap-requires g c = let long = stretch_long c.in_ok-offer.ensures.sections.1.1.0 in grind (arith, common_steps)
 
 pub copy_from_slice-requires : goal.copy_from_slice-requires
-copy_from_slice-requires g c = c.requires ∙ sym (stretch_long c.in_ok-offer.ensures.sections.seed)
+copy_from_slice-requires g c = c.requires ∙ sym (stretch_long c.in_ok-offer.ensures.sections.1.0)

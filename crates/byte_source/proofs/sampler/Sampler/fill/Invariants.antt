@@ -8,7 +8,7 @@ abbrev pub invariant-loop-count : goal.invariant-loop-count
 invariant-loop-count g l =
     let s = g.S.ByteSource in
     record {
-      same_meaning : s.meaning l.source ≡ s.meaning l.initial.source;
-      same_list : s.reading l.source ≡ s.reading l.initial.source;
-      so_far : take l.count l.numbers ++ kept l.self.modulus.q (ahead s l.source) ≡ kept l.self.modulus.q (ahead s l.initial.source);
+      same_expansion : s.expansion l.source ≡ s.expansion l.initial.source;
+      same_stream : s.stream l.source ≡ s.stream l.initial.source;
+      so_far : take l.count l.numbers ++ kept l.self.q (ahead s l.source) ≡ kept l.self.q (ahead s l.initial.source);
     }

@@ -8,9 +8,9 @@ abbrev pub invariant-loop-number : goal.invariant-loop-number
 invariant-loop-number g l =
     let s = g.S.ByteSource in
     record {
-      same_meaning : s.meaning l.source ≡ s.meaning l.initial.source;
-      same_list : s.reading l.source ≡ s.reading l.initial.source;
-      keeps : kept l.self.modulus.q (ahead s l.source) ≡ kept l.self.modulus.q (ahead s l.initial.source);
+      same_expansion : s.expansion l.source ≡ s.expansion l.initial.source;
+      same_stream : s.stream l.source ≡ s.stream l.initial.source;
+      keeps : kept l.self.q (ahead s l.source) ≡ kept l.self.q (ahead s l.initial.source);
     }
 
 abbrev pub decreases-loop-number : goal.decreases-loop-number
