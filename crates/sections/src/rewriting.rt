@@ -1,7 +1,7 @@
 //! Whether the parts of a message give its bytes again.
 
 ghost use Rattle.std.specs.Prelude.{◌≡◌, MatchResult, OnOk};
-ghost use Rattle.message.specs.Messages.{encoded, offer, answer, confirmation};
+ghost use Rattle.message.specs.Messages.{encoded};
 
 use crate::failure::Failure;
 use message::{Answer, Confirmation, Offer};
@@ -27,8 +27,7 @@ pub fn rewrite_offer<P: Profile>(
     parts: Offer<'_>,
     message: &[u8],
 ) -> Result<(), Failure>
-    ensures { let o = parts.entry in
-        OnOk result (encoded P.NUMBERS (offer o.round o.seed.now o.values.now) ≡ message.now) }
+    ensures { OnOk result (encoded P.NUMBERS parts.entry ≡ message.now) }
 {
     let mut written = vec![in alloc; 0u8; message.len()]?;
     parts.write::<P>(&mut written)?;
@@ -41,8 +40,7 @@ pub fn rewrite_answer<P: Profile>(
     parts: Answer<'_>,
     message: &[u8],
 ) -> Result<(), Failure>
-    ensures { let a = parts.entry in
-        OnOk result (encoded P.NUMBERS (answer a.round a.values.now a.signals.now) ≡ message.now) }
+    ensures { OnOk result (encoded P.NUMBERS parts.entry ≡ message.now) }
 {
     let mut written = vec![in alloc; 0u8; message.len()]?;
     parts.write::<P>(&mut written)?;
@@ -55,7 +53,7 @@ pub fn rewrite_confirmation<P: Profile>(
     parts: Confirmation,
     message: &[u8],
 ) -> Result<(), Failure>
-    ensures { OnOk result (encoded P.NUMBERS (confirmation parts.round) ≡ message.now) }
+    ensures { OnOk result (encoded P.NUMBERS parts ≡ message.now) }
 {
     let mut written = vec![in alloc; 0u8; message.len()]?;
     parts.write::<P>(&mut written)?;
