@@ -8,7 +8,8 @@ ghost use Rattle.reconcile.specs.LawProofs.Ding.{ding_sound};
 use crate::reconciler::{Reconciler, ReconcilerNumbers, Tolerance};
 use ring::{Fault, Modulus};
 
-/// The reconciler of the Ding key exchange. It tolerates even differences up to floor((q - 4) / 4).
+/// The reconciler of the Ding key exchange. It tolerates even differences up to
+/// floor((q - 4) / 4).
 pub struct Ding;
 
 /// The parity of the signed form of y, which a signal of 1 moves by (q - 1) / 2.
