@@ -4,7 +4,6 @@ packed as one big integer, whose digits to the base 2^width are the numbers of t
 
     python3 reference/messages.py lines               # the input of the program `sections`: a kind, a space and a message on each line
     python3 reference/messages.py sections < input    # what the program prints for such an input
-    python3 reference/messages.py values              # values that tests compare with
     python3 reference/messages.py check               # checks this file
 """
 import re
@@ -154,6 +153,10 @@ EXAMPLE = [
     ("confirmation", {}),
 ]
 ROUNDS = [0, 1, 258, 65536, 2**32 - 1]
+LONG = [
+    ("answer", ("W", "OKCN"), 258, {VALUES: [i * 61 % 16384 for i in range(256)], SIGNALS: [i % 4 for i in range(256)]}),
+    ("offer", ("S", "Ding"), 2**32 - 1, {SEED: [255 - i for i in range(16)], VALUES: [i * 2749 % 4096 for i in range(512)]}),
+]
 
 
 def written(kind, profile, link_round, parts):
@@ -199,6 +202,9 @@ def lines():
     offer, answer, confirmation = three["offer"], three["answer"], three["confirmation"]
     by_profile = {(kind, profile): message for kind, profile, message in accepted()}
     rows = list(three.items()) + [(kind, message) for (kind, _), message in by_profile.items()]
+    # A round of four different bytes, and numbers of all sizes.
+    rows += [("confirmation", written("confirmation", profile, 0x04030201, {})) for profile in PROFILES]
+    rows += [(kind, written(kind, profile, link_round, parts)) for kind, profile, link_round, parts in LONG]
     # Cut in each section and each count.
     rows += [("offer", offer[:length]) for length in (0, 1, 2, 8, 9, 10, 11, 26, 29)]
     rows += [("answer", answer[:length]) for length in (13, 16)]
@@ -223,28 +229,6 @@ def lines():
     rows += [("offer", by_profile["offer", ("S", "Ding")][:-1]), ("answer", by_profile["answer", ("W", "OKCN")] + b"\0")]
     rows += [("offer", by_profile["answer", ("S", "OKCN")])]
     return rows
-
-
-# Values for tests
-
-
-def values():
-    three = example()
-    for kind, message in three.items():
-        print(f"{kind} {message.hex()}, round {int.from_bytes(message[5:9], 'little')}")
-        for name, _, _, numbers in read(kind, ("T", "Ding"), message)[1:]:
-            print(f"  {name} {numbers}")
-    answer = {VALUES: [i * 61 % 16384 for i in range(256)], SIGNALS: [i % 4 for i in range(256)]}
-    offer = {SEED: [255 - i for i in range(16)], VALUES: [i * 2749 % 4096 for i in range(512)]}
-    for kind, profile, link_round, parts in (
-        ("answer", ("W", "OKCN"), 258, answer),
-        ("offer", ("S", "Ding"), 2**32 - 1, offer),
-    ):
-        message = written(kind, profile, link_round, parts)
-        print(f"{kind} of {' with '.join(profile)}, round {link_round}, {len(message)} bytes")
-        for label, some in ("first 32", message[:32]), ("last 8", message[-8:]):
-            print(f"  {label}: {some.hex()}")
-            print(f"    {list(some)}")
 
 
 # Checks
@@ -434,8 +418,6 @@ def main(command):
     elif command == "sections":
         for line in sys.stdin:
             print("\n".join(printed(line.removesuffix("\n"))))
-    elif command == "values":
-        values()
     elif command == "check":
         for part in check_packing, check_example, check_writing, check_reading, check_lines:
             part()

@@ -1,10 +1,10 @@
 //! Derived elements.
 
+use byte_source::{Tape, bit_count, derive};
 use house::{House, S, T, W};
 use profile::Profile;
 use reconcile::{Ding, Okcn};
 use ring::Fault;
-use byte_source::{Tape, bit_count, derive};
 use std::process::Abort;
 
 /// 511 is dropped; 100, 200, 5 and 0 are kept.
@@ -45,7 +45,8 @@ fn lengths_come_before_the_source(rt: HostRuntime) {
     refuses::<House<S, Ding>>(&rt, &TAPE, 4, Fault::WrongLength(4));
 }
 
-/// In groups of three bytes at W: the high bit of 24 is not looked at, q - 1 is kept and q is dropped.
+/// In groups of three bytes at W: the high bit of 24 is not looked at, q - 1 is kept and q is
+/// dropped.
 #[test]
 fn groups_of_three_bytes(rt: HostRuntime) {
     let mut output = [9; 256];

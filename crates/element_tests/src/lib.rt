@@ -1,4 +1,5 @@
-//! Tests of products, byte sources and derived elements: worked examples, refusals, and values at the edges.
+//! Tests of products, byte sources and derived elements: worked examples, refusals, and values at
+//! the edges.
 
 #![tactic(auto)]
 

@@ -38,7 +38,8 @@ fn worked_product(rt: HostRuntime) -> Result<(), Fail> {
     Ok(())
 }
 
-/// The largest sums there are: each number is -1, so the coefficient k is k + 1 products of 1 less n - 1 - k of them.
+/// The largest sums there are: each number is -1, so the coefficient k is k + 1 products of 1 less
+/// n - 1 - k of them.
 fn multiplies_the_largest<M: Multiplier>(rt: &impl Abort, multiplier: &mut M) {
     let q: u32 = 8388607;
     let largest = [q - 1; 1024];

@@ -1,7 +1,7 @@
 //! Byte sources.
 
-use keccak::shake128;
 use byte_source::{ByteSource, ShakeSource, Tape};
+use keccak::shake128;
 use std::test::Fail;
 
 const SEED: [u8; 16] = [0, 1, 2, 3, 4, 5, 6, 7, 8, 9, 10, 11, 12, 13, 14, 15];
@@ -23,7 +23,8 @@ fn tape_gives_its_bytes_for_every_seed(rt: HostRuntime) {
     assert_eq!(rt; tape.next(), Some(5));
 }
 
-/// The first four bytes, those around the first block's end, and the last two are from an implementation in C.
+/// The first four bytes, those around the first block's end, and the last two are from an
+/// implementation in C.
 #[test]
 fn shake_gives_twenty_four_blocks(rt: HostRuntime) -> Result<(), Fail> {
     let mut source = ShakeSource::new();

@@ -1,4 +1,5 @@
-//! What an end computes with single numbers, at the ends of their types; and lists of errors and coins.
+//! What an end computes with single numbers, at the ends of their types; and lists of errors and
+//! coins.
 
 use house::{House, S, T, W};
 use profile::{Profile, first_coin_not_below, first_error_beyond, modulus};

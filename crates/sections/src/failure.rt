@@ -4,17 +4,20 @@ use hex::FromHexError;
 use std::alloc::AllocError;
 use std::io;
 
+/// Only a message that is refused is told in the output; all others end the program.
 #[derive(Debug, Drop)]
 pub enum Failure {
-    /// the line is not a kind, a space and lower-case hexadecimal
+    /// The line is not a kind, a space and lower-case hexadecimal.
     Malformed,
-    /// reading refuses the message
+    /// Reading refuses the message.
     Refused(message::Fault),
-    /// unpacking or writing refuses what was read
+    /// Unpacking or writing refuses what was read.
     RingFault(ring::Fault),
-    /// writing gives other bytes than were read
+    /// Writing gives other bytes than were read.
     WrittenOtherwise,
+    /// No memory was left.
     OutOfMemory,
+    /// A line could not be read, or the output not written.
     Io(io::Error),
 }
 

@@ -17,7 +17,7 @@ use std::io;
 
 /// The n numbers that a section holds.
 fn unpack<P: Profile>(alloc: Global, width: Width, bytes: &[u8]) -> Result<Vec<u32>, Failure>
-    ensures { IfOk result (λ numbers. numbers.items ≡ unpacked width.bits P.NUMBERS.n bytes.now) }
+    ensures { IfOk result (λ numbers. numbers.items ≡ unpacked width P.NUMBERS.n bytes.now) }
 {
     let mut numbers = vec![in alloc; 0u32; P::NUMBERS.n]?;
     width.unpack(bytes, &mut numbers)?;
@@ -129,6 +129,7 @@ pub fn show<P: Profile>(
     }
 }
 
+/// The layer, the number and the place of the fault of a message.
 pub fn show_refusal(rt: &impl Print, kind: Kind, fault: Fault) -> io::Result<()> {
     println!(rt;
         "{} refused: layer {}, fault {} at {}",

@@ -1,5 +1,5 @@
-//! Prints the link sheet: for each house profile its numbers, its head bytes, the lengths of its messages and of its
-//! key, and what was measured by going through every residue.
+//! Prints the link sheet: for each house profile its numbers, its head bytes, the lengths of its
+//! messages and of its key, and what was measured by going through every residue.
 
 #![tactic(auto)]
 

@@ -1,5 +1,6 @@
 -- What is measured of a profile by going through every residue.
-use Rattle.std.specs.Prelude.{◌≡◌, ℕ, ◌+◌, ◌*◌, ◌^◌, ◌<◌, ◌≤◌, Bool, ◌&&◌, ℤ, pos, ◌-ℤ◌, ◌≤ℤ◌, Ok, Err, Result, ◌==◌, nat_le, nat_lt, if◌then◌else◌}
+use Rattle.std.specs.Prelude.{◌≡◌, ℕ, ◌+◌, ◌*◌, ◌^◌, ◌<◌, ◌≤◌, Bool, ◌&&◌, ◌==◌, nat_le, nat_lt}
+use Rattle.std.specs.Prelude.{ℤ, pos, ◌-ℤ◌, ◌≤ℤ◌, Ok, Err, Result, if◌then◌else◌}
 use Rattle.std.specs.Int.{int_min, int_max}
 use Rattle.ring.specs.Faults.{checked}
 use Rattle.ring.specs.declared.fault.Fault.{Fault}
@@ -17,7 +18,9 @@ distance f x = pos (f.recover (f.round x)) -ℤ pos x
 
 -- x lies midway between the value that it is rounded to and the next value of the same class
 abbrev pub tie : Numbers → Functions → ℕ → Bool
-tie k f x = nat_le (f.round x + k.step) k.p && f.recover (f.round x) + f.recover (f.round x + k.step) == 2 * x
+tie k f x =
+    nat_le (f.round x + k.step) k.p
+    && f.recover (f.round x) + f.recover (f.round x + k.step) == 2 * x
 
 -- m is one of d 0 .. d (n - 1), and stands before each of them in the order
 pub record IsFirst (before : ℤ → ℤ → Type 0) (d : ℕ → ℤ) (n : ℕ) (m : ℤ) : Type 0 where
@@ -38,7 +41,11 @@ pub record Surveyed (k : Numbers) (f : Functions) (n : ℕ) (s : RoundingSurvey)
 
 -- a survey with one more residue, which is moved by d
 abbrev pub widened : RoundingSurvey → ℤ → Bool → RoundingSurvey
-widened s d tied = record { least = int_min s.least d; largest = int_max s.largest d; ties = s.ties + (if tied then 1 else 0) }
+widened s d tied = record {
+  least = int_min s.least d;
+  largest = int_max s.largest d;
+  ties = s.ties + (if tied then 1 else 0);
+}
 
 abbrev pub rounding_outcome : Numbers → Functions → Result RoundingSurvey Fault → Type 0
 rounding_outcome k f (Ok s) = Surveyed k f k.q s
@@ -53,7 +60,7 @@ keys_outcome k f coin signal =
       ones = key_count f.signal f.key_bit k.q coin signal 1;
     })))
 
--- what each answer says of a coin and a signal: the signal first, then the coin
+-- what each outcome says of a coin and a signal: the signal first, then the coin
 abbrev pub KeysMeans : Numbers → Functions → (coin signal : ℕ) → Result KeyCounts Fault → Type 0
 KeysMeans k f coin signal (Ok counts) =
     (signal < 2 ^ k.signal_width)

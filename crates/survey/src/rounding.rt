@@ -6,12 +6,14 @@ ghost use Rattle.survey.specs.Surveys.{distance, tie, rounding_outcome, widened}
 use profile::Profile;
 use ring::Fault;
 
+/// What was found of all residues.
 #[derive(Clone, Copy, PartialEq, Eq, Debug)]
 pub struct RoundingSurvey {
-    /// the least and the largest of recovered less original
+    /// The least distance: what a residue's rounded value recovers to, less the residue.
     pub least: i32,
+    /// The largest distance.
     pub largest: i32,
-    /// how many residues lie midway between two values
+    /// How many residues are as near to what the value a step above their rounded one recovers to.
     pub ties: u32,
 }
 
@@ -29,6 +31,7 @@ impl RoundingSurvey {
     }
 }
 
+/// What rounding does to one residue.
 #[derive(Clone, Copy)]
 struct Rounded {
     distance: i32,
@@ -39,7 +42,8 @@ impl Rounded {
     /// How far the residue x is moved, and whether the next value is as near.
     fn of<P: Profile>(x: u32) -> Result<Self, Fault>
         requires { x < P.NUMBERS.q }
-        ensures { result ≡ Ok (record { distance = distance P.functions x; tie = tie P.NUMBERS P.functions x }) }
+        ensures { let f = P.functions in
+            result ≡ Ok (record { distance = distance f x; tie = tie P.NUMBERS f x }) }
     {
         let k = P::NUMBERS;
         let y = P::round(x)?;
@@ -55,7 +59,8 @@ impl Rounded {
 impl From<Rounded> for RoundingSurvey {
     /// The survey of one residue.
     fn from(one: Rounded) -> Self
-        ensures { result ≡ record { least = one.distance; largest = one.distance; ties = if one.tie then 1 else 0 } }
+        ensures { let d = one.distance in
+            result ≡ record { least = d; largest = d; ties = if one.tie then 1 else 0 } }
     {
         RoundingSurvey {
             least: one.distance,
@@ -65,7 +70,7 @@ impl From<Rounded> for RoundingSurvey {
     }
 }
 
-/// Rounds and recovers every residue.
+/// Rounds and recovers every residue of a profile, from 0 to q - 1. It is never refused.
 pub fn survey_rounding<P: Profile>() -> Result<RoundingSurvey, Fault>
     ensures { rounding_outcome P.NUMBERS P.functions result }
 {
