@@ -9,8 +9,8 @@ ghost use Rattle.byte_source.specs.Derivation.{derived, derive_outcome};
 ghost use Rattle.byte_source.specs.Laws.{DeriveMeans};
 
 use crate::sampler::Sampler;
-use crate::source::{ByteSource, SEED_LENGTH};
-use profile::Profile;
+use crate::source::ByteSource;
+use profile::{Profile, SEED_LENGTH};
 use ring::{Fault, place};
 
 /// No profile has a larger n.

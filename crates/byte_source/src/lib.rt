@@ -14,7 +14,8 @@ mod theorems;
 
 pub use bits::bit_count;
 pub use derivation::derive;
+pub use profile::SEED_LENGTH;
 pub use shake::ShakeSource;
-pub use source::{ByteSource, SEED_LENGTH};
+pub use source::ByteSource;
 pub use tape::Tape;
 pub use theorems::{derivation_laws, derivation_values};

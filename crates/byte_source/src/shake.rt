@@ -4,8 +4,9 @@ ghost use Rattle.std.specs.Prelude.{◌≡◌, ℕ, List, []};
 ghost use Rattle.byte_source.specs.Shakes.{expanded};
 ghost use Rattle.byte_source.specs.Shakes.{shake_expansion, shake_stream, shake_position};
 
-use crate::source::{ByteSource, SEED_LENGTH};
+use crate::source::ByteSource;
 use crate::stream::Stream;
+use profile::SEED_LENGTH;
 
 /// Expands a seed to the first 4032 bytes of its SHAKE128, 24 blocks, of which each is squeezed
 /// when its first byte is asked for. Gives nothing before it begins.

@@ -3,8 +3,7 @@
 ghost use Rattle.std.specs.Prelude.{◌≡◌, ℕ, List};
 ghost use Rattle.byte_source.specs.Sources.{Gives};
 
-/// How many bytes a seed has.
-pub const SEED_LENGTH: usize = 16;
+use profile::SEED_LENGTH;
 
 /// Expands each seed to a finite stream of bytes, the same one each time. Gives the bytes of one
 /// stream at a time, from its start on; nothing before it first begins.

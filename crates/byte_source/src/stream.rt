@@ -4,8 +4,8 @@ ghost use Rattle.std.specs.Prelude.{◌≡◌, ◌-◌, ◌<◌, ◌≤◌};
 ghost use Rattle.keccak.specs.Laws.{permuted};
 ghost use Rattle.keccak.specs.Sponge.{absorbed, next_state, output_block};
 
-use crate::source::SEED_LENGTH;
 use keccak::{RATE, Shake128};
+use profile::SEED_LENGTH;
 use std::snapshot::Snapshot;
 
 /// The blocks of a stream.

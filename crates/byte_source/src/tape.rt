@@ -4,7 +4,8 @@ ghost use Rattle.std.specs.Prelude.{◌≡◌, ◌-◌, ℕ, List, [], length, d
 ghost use Rattle.std.specs.Option.{ForSome};
 ghost use Rattle.std.specs.Slice.Iter.{iter_rest};
 
-use crate::source::{ByteSource, SEED_LENGTH};
+use crate::source::ByteSource;
+use profile::SEED_LENGTH;
 use std::slice::Iter;
 
 /// Expands every seed to the bytes that it was made from. Gives nothing before it begins.

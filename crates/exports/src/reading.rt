@@ -3,7 +3,7 @@
 
 ghost use Rattle.std.specs.Prelude.{◌≡◌, ◌==◌, length};
 ghost use Rattle.ring.specs.Faults.{after_part};
-ghost use Rattle.byte_source.specs.declared.source.TheConstants.{SEED_LENGTH};
+ghost use Rattle.profile.specs.declared.seed.TheConstants.{SEED_LENGTH};
 ghost use Rattle.exports.specs.Codes.{no_call};
 ghost use Rattle.exports.specs.Seeds.{if_seed};
 ghost use Rattle.exports.specs.Reading.{RoomMeans, room_outcome};

@@ -1,7 +1,8 @@
 -- The lengths in bytes of messages and keys.
 use Rattle.std.specs.Prelude.{ℕ, ◌+◌}
 use Rattle.packing.specs.Lengths.{packed_length}
-use Rattle.message.specs.declared.fixed_lengths.TheConstants.{COUNT_LENGTH, HEAD_LENGTH, SEED_LENGTH}
+use Rattle.message.specs.declared.fixed_lengths.TheConstants.{COUNT_LENGTH, HEAD_LENGTH}
+use Rattle.profile.specs.declared.seed.TheConstants.{SEED_LENGTH}
 use Rattle.profile.specs.declared.numbers.Numbers.{Numbers}
 
 -- n rounded values, and n signals

@@ -2,7 +2,8 @@
 use Rattle.std.specs.Prelude.{◌≡◌, ℕ, ◌^◌, ◌<◌, List, ◌∷◌, ◌++◌, length}
 use Rattle.packing.specs.Packing.{digits, packed, AllFit}
 use Rattle.profile.specs.declared.numbers.Numbers.{Numbers}
-use Rattle.message.specs.declared.fixed_lengths.TheConstants.{COUNT_LENGTH, SEED_LENGTH}
+use Rattle.message.specs.declared.fixed_lengths.TheConstants.{COUNT_LENGTH}
+use Rattle.profile.specs.declared.seed.TheConstants.{SEED_LENGTH}
 use Rattle.message.specs.declared.kind.Kind.{Kind}
 use Rattle.message.specs.declared.kind.Kind.TheVariants.{Offer, Answer, Confirmation}
 

@@ -9,7 +9,8 @@ use Rattle.profile.specs.declared.numbers.Numbers.{Numbers}
 use Rattle.packing.specs.Packing.{number}
 use Rattle.message.specs.declared.fault.Fault.{Fault}
 use Rattle.message.specs.declared.fault.Fault.TheVariants.{WrongShape}
-use Rattle.message.specs.declared.fixed_lengths.TheConstants.{COUNT_LENGTH, HEAD_LENGTH, SEED_LENGTH}
+use Rattle.message.specs.declared.fixed_lengths.TheConstants.{COUNT_LENGTH, HEAD_LENGTH}
+use Rattle.profile.specs.declared.seed.TheConstants.{SEED_LENGTH}
 use Rattle.message.specs.declared.kind.Kind.{Kind}
 use Rattle.message.specs.declared.kind.Kind.TheVariants.{Offer, Answer, Confirmation}
 use Rattle.message.specs.declared.section.Section.{Section}

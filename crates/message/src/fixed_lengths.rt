@@ -5,6 +5,3 @@ pub(crate) const COUNT_LENGTH: usize = 2;
 
 /// A message's head.
 pub const HEAD_LENGTH: usize = 7;
-
-/// A seed.
-pub const SEED_LENGTH: usize = 16;

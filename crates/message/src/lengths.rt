@@ -5,10 +5,10 @@ ghost use Rattle.packing.specs.Lengths.{packed_length};
 ghost use Rattle.message.specs.Lengths.{answer_length, confirmation_length, offer_length};
 ghost use Rattle.message.specs.Lengths.{key_length, section_length, signals_length, values_length};
 
-use crate::fixed_lengths::{COUNT_LENGTH, HEAD_LENGTH, SEED_LENGTH};
+use crate::fixed_lengths::{COUNT_LENGTH, HEAD_LENGTH};
 use crate::widths::{key_width, signals_width, values_width};
 use packing::Width;
-use profile::Profile;
+use profile::{Profile, SEED_LENGTH};
 
 /// What n numbers of a width take, packed one after another.
 fn packed<P: Profile>(width: Width) -> usize

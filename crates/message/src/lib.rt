@@ -17,13 +17,14 @@ mod widths;
 mod writing;
 
 pub use fault::Fault;
-pub use fixed_lengths::{HEAD_LENGTH, SEED_LENGTH};
+pub use fixed_lengths::HEAD_LENGTH;
 pub use kind::Kind;
 pub use lengths::{
     answer_length, confirmation_length, key_length, offer_length, signals_length, values_length,
 };
 pub use line::hexadecimal_line;
 pub use parts::{Answer, Confirmation, Offer};
+pub use profile::SEED_LENGTH;
 pub use reading::{read_answer, read_confirmation, read_offer};
 pub use section::{AnswerSections, ConfirmationSections, OfferSections, Section};
 pub use theorems::message_laws;

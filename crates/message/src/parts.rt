@@ -2,7 +2,7 @@
 
 ghost use Rattle.message.specs.Messages.{Message, answer, confirmation, offer, round_of};
 
-use crate::fixed_lengths::SEED_LENGTH;
+use profile::SEED_LENGTH;
 use std::marker::Model;
 
 /// The parts of an offer.

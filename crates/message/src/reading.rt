@@ -11,11 +11,11 @@ ghost use Rattle.message.specs.declared.kind.Kind.TheVariants.{Offer, Answer, Co
 ghost use Rattle.message.specs.Lengths.{signals_length};
 
 use crate::fault::Fault;
-use crate::fixed_lengths::{COUNT_LENGTH, HEAD_LENGTH, SEED_LENGTH};
+use crate::fixed_lengths::{COUNT_LENGTH, HEAD_LENGTH};
 use crate::kind::Kind;
 use crate::lengths::{signals_length, values_length};
 use crate::section::{AnswerSections, ConfirmationSections, OfferSections, Section};
-use profile::Profile;
+use profile::{Profile, SEED_LENGTH};
 
 /// Reads a message as an offer.
 pub fn read_offer<P: Profile>(message: &[u8]) -> Result<OfferSections<'_>, Fault>

@@ -12,6 +12,7 @@ mod place;
 mod profile;
 mod secret;
 mod secret_guard;
+mod seed;
 mod sizes;
 mod theorems;
 
@@ -23,5 +24,6 @@ pub use place::Place;
 pub use profile::Profile;
 pub use secret::{SecretPlace, fill_refuses_the_first};
 pub use secret_guard::SecretGuard;
+pub use seed::SEED_LENGTH;
 pub use sizes::{first_beyond, first_past};
 pub use theorems::functions_refuse_the_first;

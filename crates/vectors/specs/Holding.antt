@@ -4,7 +4,7 @@ use Rattle.element.specs.Products.{product}
 use Rattle.keccak.specs.Sponge.{shake128}
 use Rattle.byte_source.specs.Derivation.{derived}
 use Rattle.byte_source.specs.Shakes.{expanded}
-use Rattle.byte_source.specs.declared.source.TheConstants.{SEED_LENGTH}
+use Rattle.profile.specs.declared.seed.TheConstants.{SEED_LENGTH}
 use Rattle.exports.specs.ByProfile.{by_profile}
 use Rattle.exports.specs.Profiles.{round_code, recover_code, reconcile_code, read_code}
 use Rattle.vectors.specs.declared.line.Group.{Group}
