@@ -14,7 +14,6 @@ mod theorems;
 
 pub use bits::bit_count;
 pub use derivation::derive;
-pub use profile::SEED_LENGTH;
 pub use shake::ShakeSource;
 pub use source::ByteSource;
 pub use tape::Tape;

@@ -2,7 +2,7 @@
 
 use byte_source::{Tape, bit_count, derive};
 use house::{House, S, T, W};
-use profile::Profile;
+use profile::{Profile, SEED_LENGTH};
 use reconcile::{Ding, Okcn};
 use ring::Fault;
 use std::process::Abort;
@@ -11,7 +11,7 @@ use std::process::Abort;
 const TAPE: [u8; 10] = [0xff, 0xff, 0x64, 0x00, 0xc8, 0x00, 0x05, 0x00, 0x00, 0x00];
 
 fn derive_by<P: Profile>(tape: &[u8], output: &mut [u32]) -> Result<(), Fault> {
-    derive::<P, Tape>(&mut Tape::new(tape), &[0; 16], output)
+    derive::<P, Tape>(&mut Tape::new(tape), &[0; SEED_LENGTH], output)
 }
 
 #[test]

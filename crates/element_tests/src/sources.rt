@@ -2,15 +2,16 @@
 
 use byte_source::{ByteSource, ShakeSource, Tape};
 use keccak::shake128;
+use profile::SEED_LENGTH;
 use std::test::Fail;
 
-const SEED: [u8; 16] = [0, 1, 2, 3, 4, 5, 6, 7, 8, 9, 10, 11, 12, 13, 14, 15];
+const SEED: [u8; SEED_LENGTH] = [0, 1, 2, 3, 4, 5, 6, 7, 8, 9, 10, 11, 12, 13, 14, 15];
 
 #[test]
 fn tape_gives_its_bytes_for_every_seed(rt: HostRuntime) {
     let mut tape = Tape::new(&[5, 6]);
     assert_eq!(rt; tape.next(), None, "it has not begun");
-    for seed in [[0; 16], SEED] {
+    for seed in [[0; SEED_LENGTH], SEED] {
         tape.begin(&seed);
         assert_eq!(rt; tape.next(), Some(5));
         assert_eq!(rt; tape.next(), Some(6));
@@ -47,7 +48,7 @@ fn shake_begins_anew(rt: HostRuntime) {
     let mut source = ShakeSource::new();
     let mut whole = [0; 169];
     shake128(&SEED, &mut whole);
-    for other in [[7; 16], SEED] {
+    for other in [[7; SEED_LENGTH], SEED] {
         source.begin(&other);
         assert!(rt; source.next().is_some());
         source.begin(&SEED);

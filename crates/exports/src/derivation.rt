@@ -8,8 +8,9 @@ ghost use Rattle.exports.specs.Elements.{derive_seed_code, derive_seed_output};
 
 use crate::by_index::by_index;
 use crate::codes::{Coded, NO_CALL};
-use byte_source::{SEED_LENGTH, ShakeSource, Tape, derive};
+use byte_source::{ShakeSource, Tape, derive};
 use keccak::shake128;
+use profile::SEED_LENGTH;
 
 /// A source that expands every seed to the tape's bytes; clauses ask for those of the empty one.
 fn tape_source(tape: &[u8]) -> Tape<'_>

@@ -16,9 +16,8 @@ ghost use Rattle.exports.specs.Reading.{read_confirmation_code};
 use crate::by_index::by_index;
 use crate::codes::{Coded, NO_CALL};
 use crate::refusal::Refusal;
-use byte_source::SEED_LENGTH;
 use message::{signals_width, values_width};
-use profile::Profile;
+use profile::{Profile, SEED_LENGTH};
 use ring::{Fault, place};
 
 /// The round of an offer of the house profile of an index; the buffers then hold its seed, of 16

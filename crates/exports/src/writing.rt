@@ -8,8 +8,8 @@ ghost use Rattle.exports.specs.Writing.{write_code, write_output};
 
 use crate::by_index::by_index;
 use crate::codes::{Coded, NO_CALL};
-use byte_source::SEED_LENGTH;
 use message::{Answer, Confirmation, Offer};
+use profile::SEED_LENGTH;
 
 /// Writes an offer of the house profile of an index, with a seed of 16 bytes and n rounded values.
 pub fn exported_write_offer(

@@ -9,11 +9,11 @@ ghost use Rattle.vectors.specs.Holding.{RoundedHolds, ReconciledHolds, ReadHolds
 
 use crate::line::Group;
 use anyhow::bail;
-use byte_source::SEED_LENGTH;
 use exports::{
     DONE, exported_derive_shake, exported_multiply, exported_read, exported_reconcile,
     exported_recover, exported_round, exported_shake128,
 };
+use profile::SEED_LENGTH;
 use std::alloc::Global;
 
 const MALFORMED: &str = "a line of the wrong length";
