@@ -7,6 +7,7 @@ use Rattle.ring.specs.declared.fault.Fault.TheVariants.{WrongLength, OutOfRange,
 use Rattle.ring.specs.declared.fault.Fault.TheVariants.{CoinOutOfRange, SourceSpent}
 use Rattle.ring.specs.declared.place.TheConstants.{OUTPUT}
 use Rattle.byte_source.specs.Derivation.{bits, bytes_for, kept, derived, derive_outcome}
+use Rattle.byte_source.specs.declared.stream.TheConstants.{STREAM_LENGTH}
 
 -- what each outcome says: that there is an element, or why there is none
 abbrev pub DeriveMeans : (n q : ℕ) (bytes : List ℕ) (places : ℕ) → Result (Unit {0}) Fault → Type 0
@@ -33,11 +34,12 @@ pub record DerivationLaws : Type 0 where
   pub stable : (n q : ℕ) (bytes more : List ℕ) (places : ℕ) → 1 < q →
       derive_outcome n q bytes places ≡ Ok tt → derived n q (bytes ++ more) ≡ derived n q bytes
 
--- at the moduli of the number sets T, S and W, and one element that was worked out by hand
+-- at the moduli of the number sets T, S and W, the bytes of a stream, and one element that was worked out by hand
 pub record DerivationValues : Type 0 where
   pub groups_t : Groups 257 9 2
   pub groups_s : Groups 12289 14 2
   pub groups_w : Groups 8380417 23 3
+  pub stream_length : STREAM_LENGTH ≡ 4032
   pub element_t :
       derived 4 257 (0xff ∷ 0xff ∷ 0x64 ∷ 0x00 ∷ 0xc8 ∷ 0x00 ∷ 0x05 ∷ 0x00 ∷ 0x00 ∷ 0x00 ∷ [])
       ≡ 100 ∷ 200 ∷ 5 ∷ 0 ∷ []

@@ -16,5 +16,6 @@ pub use bits::bit_count;
 pub use derivation::derive;
 pub use shake::ShakeSource;
 pub use source::ByteSource;
+pub use stream::STREAM_LENGTH;
 pub use tape::Tape;
 pub use theorems::{derivation_laws, derivation_values};

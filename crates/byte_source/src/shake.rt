@@ -8,8 +8,8 @@ use crate::source::ByteSource;
 use crate::stream::Stream;
 use profile::SEED_LENGTH;
 
-/// Expands a seed to the first 4032 bytes of its SHAKE128, 24 blocks, of which each is squeezed
-/// when its first byte is asked for. Gives nothing before it begins.
+/// Expands a seed to the first `STREAM_LENGTH` bytes of its SHAKE128, 24 blocks, of which each is
+/// squeezed when its first byte is asked for. Gives nothing before it begins.
 #[derive(Drop)]
 pub struct ShakeSource {
     stream: Option<Stream>,

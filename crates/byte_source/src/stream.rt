@@ -3,6 +3,8 @@
 ghost use Rattle.std.specs.Prelude.{◌≡◌, ◌-◌, ◌<◌, ◌≤◌};
 ghost use Rattle.keccak.specs.Laws.{permuted};
 ghost use Rattle.keccak.specs.Sponge.{absorbed, next_state, output_block};
+ghost use Rattle.keccak.specs.declared.sponge.TheConstants.{RATE};
+ghost use Rattle.byte_source.specs.declared.stream.TheConstants.{BLOCKS};
 
 use keccak::{RATE, Shake128};
 use profile::SEED_LENGTH;
@@ -10,6 +12,9 @@ use std::snapshot::Snapshot;
 
 /// The blocks of a stream.
 const BLOCKS: usize = 24;
+
+/// The bytes of the stream that a `ShakeSource` expands a seed to: 24 blocks of `RATE` bytes.
+pub const STREAM_LENGTH: usize = BLOCKS * RATE;
 
 /// What a seed expands to. `left` blocks are still to be squeezed, and of the last one that was
 /// squeezed the bytes from `offset` on are still to be given. Only clauses read `seed`.
@@ -20,12 +25,12 @@ pub(crate) struct Stream {
     block: [u8; RATE],
     offset: usize,
     left: usize,
-    ghost within: { left ≤ 24 },
-    ghost inside: { offset ≤ 168 },
-    ghost unread: { left ≡ 24 → offset ≡ 168 },
-    ghost squeezed: { next_state sponge ≡ permuted (24 - left) (absorbed seed.value) },
-    ghost last: { left < 24
-        → block ≡ output_block (permuted (23 - left) (absorbed seed.value)) },
+    ghost within: { left ≤ BLOCKS },
+    ghost inside: { offset ≤ RATE },
+    ghost unread: { left ≡ BLOCKS → offset ≡ RATE },
+    ghost squeezed: { next_state sponge ≡ permuted (BLOCKS - left) (absorbed seed.value) },
+    ghost last: { left < BLOCKS
+        → block ≡ output_block (permuted (BLOCKS - 1 - left) (absorbed seed.value)) },
 }
 
 impl Stream {
@@ -51,7 +56,7 @@ impl Stream {
     /// Squeezes the next block, unless there is none left.
     #[tactic(auto, using(crate::proofs::Squeezing::squeezed_more))]
     fn squeeze(&mut self) -> Option<()>
-        requires { self.old.offset ≡ 168 }
+        requires { self.old.offset ≡ RATE }
         ensures seeded { self.new.seed.value ≡ self.old.seed.value }
         ensures stays { stream_position self.new ≡ stream_position self.old }
         ensures fresh { MatchOption result (self.old.left ≡ 0) (λ _. self.new.offset ≡ 0) }

@@ -1,6 +1,6 @@
 //! Byte sources.
 
-use byte_source::{ByteSource, ShakeSource, Tape};
+use byte_source::{ByteSource, STREAM_LENGTH, ShakeSource, Tape};
 use keccak::shake128;
 use profile::SEED_LENGTH;
 use std::test::Fail;
@@ -31,7 +31,7 @@ fn shake_gives_twenty_four_blocks(rt: HostRuntime) -> Result<(), Fail> {
     let mut source = ShakeSource::new();
     assert_eq!(rt; source.next(), None, "it has not begun");
     source.begin(&SEED);
-    let mut bytes = [0; 4032];
+    let mut bytes = [0; STREAM_LENGTH];
     for byte in &mut bytes {
         *byte = source.next().ok_or("used up too soon")?;
     }
@@ -39,7 +39,7 @@ fn shake_gives_twenty_four_blocks(rt: HostRuntime) -> Result<(), Fail> {
     assert_eq!(rt; source.next(), None);
     assert_eq!(rt; &bytes[..4], [152, 72, 25, 70].as_slice());
     assert_eq!(rt; &bytes[166..170], [67, 201, 218, 94].as_slice());
-    assert_eq!(rt; &bytes[4030..], [173, 129].as_slice());
+    assert_eq!(rt; &bytes[STREAM_LENGTH - 2..], [173, 129].as_slice());
     Ok(())
 }
 
