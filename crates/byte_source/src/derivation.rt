@@ -11,10 +11,7 @@ ghost use Rattle.byte_source.specs.Laws.{DeriveMeans};
 use crate::sampler::Sampler;
 use crate::source::ByteSource;
 use profile::{Profile, SEED_LENGTH};
-use ring::{Fault, place};
-
-/// No profile has a larger n.
-const LARGEST_DEGREE: usize = 1024;
+use ring::{Fault, LARGEST_DEGREE, place};
 
 /// Writes the element of the seed: its n coefficients are the first numbers below q that the
 /// seed's stream gives. Refuses an output of another length with fault 1, before the source

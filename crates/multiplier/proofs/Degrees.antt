@@ -2,6 +2,7 @@
 use Rattle.std.proofs.Common.{◌≡◌, ℕ, ◌^◌, ◌≤◌, eqb, true, refl, ap, ◌∙◌, arith, pow_pos, pow_mono}
 use Rattle.std.specs.Int.Count.{ones}
 use Rattle.std.proofs.lemmas.Nat.{ones_cat}
+use Rattle.ring.specs.declared.degree.TheConstants.{LARGEST_DEGREE}
 use Rattle.multiplier.specs.Multipliers.{IsDegree}
 use Rattle.multiplier.specs.LawProofs.{degree_from_ones}
 
@@ -9,11 +10,11 @@ ones_of_degree : (n : ℕ) → IsDegree n → ones n ≡ 1
 unfolding ones
 ones_of_degree n (m, most, is) = ap ones (is ∙ omega arith) ∙ ones_cat m 1 0 (pow_pos m)
 
-degree_most : (n : ℕ) → IsDegree n → n ≤ 1024
+degree_most : (n : ℕ) → IsDegree n → n ≤ LARGEST_DEGREE
 degree_most n (m, most, is) = let bound : 2 ^ m ≤ 2 ^ 10 = pow_mono most in omega arith
 
 -- a degree passes both tests
-pub degree_passes : (n : ℕ) → IsDegree n → (eqb (ones n) 1 ≡ true) × (n ≤ 1024)
+pub degree_passes : (n : ℕ) → IsDegree n → (eqb (ones n) 1 ≡ true) × (n ≤ LARGEST_DEGREE)
 degree_passes n is = (rw (ones_of_degree n is) refl, degree_most n is)
 
 pub ruleset degrees = (degree_from_ones, degree_passes)

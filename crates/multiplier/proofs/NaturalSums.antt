@@ -2,6 +2,7 @@
 use Rattle.std.proofs.Common.{◌≡◌, ℕ, zero, suc, ◌+◌, ◌*◌, ◌^◌, ◌<◌, ◌≤◌, ℤ, pos, ◌+ℤ◌, refl, ap, ap₂, suc-mul, add-one, arith}
 use Rattle.std.proofs.lemmas.Nat.{mul-le}
 use Rattle.element.specs.Products.{sum_to}
+use Rattle.ring.specs.declared.degree.TheConstants.{LARGEST_DEGREE}
 use Rattle.multiplier.specs.Sums.{nat_sum}
 
 pub nat_sum_none : (f : ℕ → ℕ) → nat_sum 0 f ≡ 0
@@ -20,10 +21,10 @@ nat_sum_bound f (suc m) b h =
     omega (arith, rest, h m (omega arith), suc-mul m b)
 
 -- products of numbers below 2^23, 1024 of them at most, stay below 2^56
-pub products_fit : (f g : ℕ → ℕ) (m : ℕ) → m ≤ 1024 → ((i : ℕ) → i < m → f i < 2 ^ 23) → ((i : ℕ) → i < m → g i < 2 ^ 23) → nat_sum m (λ i. f i * g i) ≤ 2 ^ 56
+pub products_fit : (f g : ℕ → ℕ) (m : ℕ) → m ≤ LARGEST_DEGREE → ((i : ℕ) → i < m → f i < 2 ^ 23) → ((i : ℕ) → i < m → g i < 2 ^ 23) → nat_sum m (λ i. f i * g i) ≤ 2 ^ 56
 products_fit f g m most left right =
     let each : nat_sum m (λ i. f i * g i) ≤ m * (2 ^ 23 * 2 ^ 23) = nat_sum_bound (λ i. f i * g i) m (2 ^ 23 * 2 ^ 23) (λ i lt. mul-le (f i) (g i) (2 ^ 23) (2 ^ 23) (omega (arith, left i lt)) (omega (arith, right i lt))) in
-    omega (arith, each, mul-le m (2 ^ 23 * 2 ^ 23) 1024 (2 ^ 23 * 2 ^ 23) most (omega arith))
+    omega (arith, each, mul-le m (2 ^ 23 * 2 ^ 23) LARGEST_DEGREE (2 ^ 23 * 2 ^ 23) most (omega arith))
 
 pub nat_sum_same : (f g : ℕ → ℕ) (m : ℕ) → ((i : ℕ) → i < m → f i ≡ g i) → nat_sum m f ≡ nat_sum m g
 unfolding nat_sum

@@ -7,6 +7,7 @@ use Rattle.std.proofs.lemmas.List.{get_or-reverse, length-reverse}
 use Rattle.std.proofs.lemmas.List.Edits.{length-between, get_or-between}
 use Rattle.std.proofs.lemmas.List.Sums.{sum_by_more}
 use Rattle.std.proofs.lemmas.Slice.Zip.{length-zip, get_or-zip}
+use Rattle.ring.specs.declared.degree.TheConstants.{LARGEST_DEGREE}
 use Rattle.multiplier.specs.Sums.{AreFactors, nat_sum, coefficient_mod}
 use Rattle.multiplier.proofs.Coefficients.{difference_is_coefficient}
 use Rattle.multiplier.proofs.NaturalSums.{nat_sum_same, nat_sum_bound}
@@ -67,7 +68,7 @@ module _ (q : ℕ) (left right : List ℕ) (f : AreFactors q left right) where
   part_fits : (a e : ℕ) → a ≤ e → e ≤ length left → reversed_sum (between a e left) (between a e right) ≤ 2 ^ 56
   part_fits a e order inside =
       let square : q * q ≤ 2 ^ 23 * 2 ^ 23 = mul-le q q (2 ^ 23) (2 ^ 23) (omega (arith, f.is_modulus.below)) (omega (arith, f.is_modulus.below)) in
-      omega (arith, part_most a e order inside, mul-le (length left) (q * q) 1024 (2 ^ 23 * 2 ^ 23) f.short square)
+      omega (arith, part_most a e order inside, mul-le (length left) (q * q) LARGEST_DEGREE (2 ^ 23 * 2 ^ 23) f.short square)
 
   module _ (k : ℕ) (inside : k < length left) where
     -- k + 1 numbers of each list
@@ -90,7 +91,7 @@ module _ (q : ℕ) (left right : List ℕ) (f : AreFactors q left right) where
       pub lifted_fits : plus + length left * q * q < 2 ^ 64
       lifted_fits =
           let square : q * q ≤ 2 ^ 23 * 2 ^ 23 = mul-le q q (2 ^ 23) (2 ^ 23) (omega (arith, f.is_modulus.below)) (omega (arith, f.is_modulus.below)) in
-          omega (arith, plus_is, front_is, part_fits 0 (k + 1) (omega arith) (omega arith), mul_assoc (length left) q q, mul-le (length left) (q * q) 1024 (2 ^ 23 * 2 ^ 23) f.short square)
+          omega (arith, plus_is, front_is, part_fits 0 (k + 1) (omega arith) (omega arith), mul_assoc (length left) q q, mul-le (length left) (q * q) LARGEST_DEGREE (2 ^ 23 * 2 ^ 23) f.short square)
 
       pub enough : minus ≤ plus + length left * q * q
       enough = omega (arith, minus_is, rest_is, part_most (k + 1) (length left) (omega arith) (omega arith), mul_assoc (length left) q q)

@@ -5,6 +5,7 @@ use Rattle.std.proofs.Common.{inl, inr, ⊎_elim, pow-suc, arith}
 use Rattle.std.specs.Int.Count.{ones, ones_step}
 use Rattle.std.proofs.lemmas.Nat.{mul-le, ones_le_self, zero_from_ones}
 use Rattle.std.proofs.lemmas.Bool.{cases_eq}
+use Rattle.ring.specs.declared.degree.TheConstants.{LARGEST_DEGREE}
 use Rattle.multiplier.specs.Multipliers.{IsDegree, InRange}
 use Rattle.multiplier.specs.Rings.{Ring}
 
@@ -20,7 +21,7 @@ one_bit (suc k) n h one =
     (suc rest.0, omega (arith, rest.1), omega (arith, rest.2, pow-suc 2 rest.0)))
     (⊎_elim (λ odd. inl odd) (λ other. inr (omega arith)) (cases_eq (n % 2) 1))
 
-pub degree_from_ones : (n : ℕ) → ones n ≡ 1 → n ≤ 1024 → IsDegree n
+pub degree_from_ones : (n : ℕ) → ones n ≡ 1 → n ≤ LARGEST_DEGREE → IsDegree n
 degree_from_ones n one most =
     let m = one_bit 11 n (omega arith) one in
     (m.0, omega (arith, m.1), m.2)
@@ -31,5 +32,5 @@ pub in_range : (ring : Ring) (words : ℕ) → words ≤ 64
 in_range ring words few = record {
   degree = degree_from_ones ring.degree ring.power ring.most;
   modulus = ring.is_modulus;
-  need_most = omega (arith, mul-le words ring.degree 64 1024 few ring.most);
+  need_most = omega (arith, mul-le words ring.degree 64 LARGEST_DEGREE few ring.most);
 }

@@ -2,11 +2,10 @@
 
 ghost use Rattle.std.specs.Prelude.{◌≡◌, ◌≤◌, count_ones};
 ghost use Rattle.ring.specs.Residues.{IsModulus};
+ghost use Rattle.ring.specs.declared.degree.TheConstants.{LARGEST_DEGREE};
 
-use ring::Modulus;
+use ring::{LARGEST_DEGREE, Modulus};
 use std::marker::Model;
-
-const LARGEST_DEGREE: usize = 1024;
 
 /// The polynomials over the residues modulo q, modulo x^n + 1: n is a power of two from 1 to 1024.
 /// Clauses know it as its degree n and its modulus q.
@@ -15,7 +14,7 @@ pub struct QuotientRing {
     degree: usize,
     modulus: Modulus,
     ghost power: { count_ones degree ≡ 1 },
-    ghost most: { degree ≤ 1024 },
+    ghost most: { degree ≤ LARGEST_DEGREE },
     ghost is_modulus: { IsModulus modulus },
 }
 
