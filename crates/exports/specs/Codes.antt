@@ -1,6 +1,6 @@
 -- The code of an outcome: how it is told in one number of 64 bits.
 use Rattle.std.specs.Prelude.{ℕ, ◌+◌, ◌-◌, ◌*◌, ◌^◌, min, Ok, Err, Result}
-use Rattle.ring.specs.Faults.{number_of, place_of}
+use Rattle.ring.specs.Faults.{report}
 use Rattle.ring.specs.declared.fault.Fault.{Fault}
 use Rattle.message.specs.Faults as message
 use Rattle.message.specs.declared.fault.Fault as message_fault
@@ -12,10 +12,10 @@ abbrev pub code_of : (number place : ℕ) → ℕ
 code_of number place = number * 2 ^ 56 + min place (2 ^ 56 - 1)
 
 abbrev pub fault_code : Fault → ℕ
-fault_code fault = code_of (number_of fault) (place_of fault)
+fault_code fault = code_of (report fault).number (report fault).place
 
 abbrev pub message_fault_code : message_fault.Fault → ℕ
-message_fault_code fault = code_of (message.number_of fault) (message.place_of fault)
+message_fault_code fault = code_of (message.report fault).number (message.report fault).place
 
 -- the fault that was passed up
 abbrev pub refusal_code : Refusal → ℕ
