@@ -1,4 +1,5 @@
 pub mod BitCounts
+pub mod Reading
 pub mod Groups
 pub mod Keeping
 pub mod Laws

@@ -4,7 +4,7 @@ ghost use Rattle.std.specs.Prelude.{◌≡◌, ◌-◌, ◌<◌, ◌≤◌, ◌�
 ghost use Rattle.ring.specs.Faults.{after};
 ghost use Rattle.byte_source.specs.Derivation.{bits as bits_of, bytes_for, kept, derived};
 ghost use Rattle.byte_source.specs.Derivation.{keep_outcome};
-ghost use Rattle.byte_source.specs.Reading.{ahead};
+ghost use Rattle.byte_source.specs.Reading.{ahead, KeepsStream};
 
 use crate::bits::{bit_count, low_bits};
 use crate::group::next_number;
@@ -40,8 +40,7 @@ impl Sampler {
 
     /// The next number that is kept, or nothing once the stream is used up.
     fn next<S: ByteSource>(self, source: &mut S) -> Option<u32>
-        ensures same_expansion { S.expansion source.new ≡ S.expansion source.old }
-        ensures same_stream { S.stream source.new ≡ S.stream source.old }
+        ensures keeps { KeepsStream S.ByteSource source.old source.new }
         ensures gives { let all = kept self.q (ahead S.ByteSource source.old) in
             MatchOption result (all ≡ [])
             (λ x. all ≡ x ∷ kept self.q (ahead S.ByteSource source.new)) }
@@ -56,8 +55,7 @@ impl Sampler {
 
     /// Fills `numbers` with the first ones that the bytes ahead give, or says how many they give.
     fn fill<S: ByteSource>(self, source: &mut S, numbers: &mut [u32]) -> Result<(), Fault>
-        ensures same_expansion { S.expansion source.new ≡ S.expansion source.old }
-        ensures same_stream { S.stream source.new ≡ S.stream source.old }
+        ensures keeps { KeepsStream S.ByteSource source.old source.new }
         ensures outcome { let all = kept self.q (ahead S.ByteSource source.old) in
             result ≡ keep_outcome (length numbers.old) all }
         ensures fills { let bytes = ahead S.ByteSource source.old in
@@ -78,8 +76,7 @@ impl Sampler {
         output: &mut [u32],
     ) -> Result<(), Fault>
         requires { length output.old ≤ length room.old }
-        ensures same_expansion { S.expansion source.new ≡ S.expansion source.old }
-        ensures same_stream { S.stream source.new ≡ S.stream source.old }
+        ensures keeps { KeepsStream S.ByteSource source.old source.new }
         ensures outcome { let all = kept self.q (ahead S.ByteSource source.old) in
             result ≡ keep_outcome (length output.old) all }
         ensures fills { let bytes = ahead S.ByteSource source.old in

@@ -1,6 +1,7 @@
-use Rattle.std.proofs.Common.{◌≡◌, ◌<◌, ◌∷◌, arith, ◌∙◌}
+use Rattle.std.proofs.Common.{◌≡◌, ◌<◌, ◌∷◌, arith}
 use Rattle.byte_source.specs.Reading.{ahead}
 use Rattle.byte_source.proofs.Groups.{byte_ahead, group_short, group_more, or_byte, or_byte_below}
+use Rattle.byte_source.proofs.Reading.{still_keeps}
 use Rattle.byte_source.proofs.group.next_number.Goals as goal
 
 pub returns-in_err-byte-clause-gives : goal.returns-in_err-byte-clause-gives
@@ -18,8 +19,7 @@ loop-i-preserved g c =
     let byte : b < 256 = omega arith in
     let few : c.loop-i.i < 4 = omega arith in
     record {
-      same_expansion = f.same_expansion ∙ inv.same_expansion;
-      same_stream = f.same_stream ∙ inv.same_stream;
+      keeps = still_keeps s _ _ _ inv.keeps (record { same_expansion = f.same_expansion; same_stream = f.same_stream });
       group = rw (same, or_byte c.loop-i.number b c.loop-i.i inv.low byte few) (group_more _ _ _ _ inv.group b _ first);
       low = rw same (or_byte_below c.loop-i.number b c.loop-i.i inv.low byte few);
     }

@@ -1,6 +1,6 @@
-use Rattle.std.proofs.Common.{◌≡◌, ◌*◌, ◌^◌, ◌<◌}
+use Rattle.std.proofs.Common.{◌*◌, ◌^◌, ◌<◌}
 use Rattle.byte_source.specs.Derivation.{WholeGroup}
-use Rattle.byte_source.specs.Reading.{ahead}
+use Rattle.byte_source.specs.Reading.{ahead, KeepsStream}
 use Rattle.byte_source.proofs.group.next_number.Given as goal
 
 -- the first i bytes are read
@@ -8,8 +8,7 @@ abbrev pub invariant-loop-i : goal.invariant-loop-i
 invariant-loop-i g l =
     let s = g.S.ByteSource in
     record {
-      same_expansion : s.expansion l.source ≡ s.expansion l.initial.source;
-      same_stream : s.stream l.source ≡ s.stream l.initial.source;
+      keeps : KeepsStream s l.initial.source l.source;
       group : WholeGroup l.i (ahead s l.initial.source) l.number (ahead s l.source);
       low : l.number < 2 ^ (8 * l.i);
     }
