@@ -17,8 +17,10 @@ pub(crate) struct Sampler {
     q: u32,
     bits: u32,
     bytes: u32,
+    // below 2, no bit would be needed, and a group would be empty
     ghost least: { 1 < q },
     ghost width: { bits ≡ bits_of (q - 1) },
+    // a group has three bytes at most, which a u32 holds
     ghost few: { bits ≤ 23 },
     ghost size: { bytes ≡ bytes_for bits },
 }

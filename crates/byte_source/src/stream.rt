@@ -27,8 +27,11 @@ pub(crate) struct Stream {
     left: usize,
     ghost within: { left ≤ BLOCKS },
     ghost inside: { offset ≤ RATE },
+    // before the first block is squeezed, nothing of `block` is to be given
     ghost unread: { left ≡ BLOCKS → offset ≡ RATE },
+    // what the sponge gives next is the block after those that were squeezed
     ghost squeezed: { next_state sponge ≡ permuted (BLOCKS - left) (absorbed seed.value) },
+    // and `block` holds the last of these
     ghost last: { left < BLOCKS
         → block ≡ output_block (permuted (BLOCKS - 1 - left) (absorbed seed.value)) },
 }

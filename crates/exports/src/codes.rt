@@ -17,6 +17,7 @@ const LARGEST_PLACE: u64 = (1 << 56) - 1;
 
 /// What has a code.
 pub(crate) trait Coded {
+    // the code, as a number
     ghost code: { Self → ℕ };
 
     /// The code, in 64 bits.

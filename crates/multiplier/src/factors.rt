@@ -14,6 +14,7 @@ pub struct Factors<'a> {
     pub(crate) left: &'a [u32],
     pub(crate) right: &'a [u32],
     pub(crate) modulus: u32,
+    // the lists are as the type says
     ghost fit: { AreFactors modulus left.now right.now },
 }
 

@@ -11,9 +11,10 @@ use ring::Fault;
 
 /// Multiplies elements of one ring.
 pub trait Multiplier: Drop {
-    // the degree and the modulus of the ring
+    // the degree of the ring
     ghost n: { Self → ℕ };
 
+    // the modulus of the ring
     ghost q: { Self → ℕ };
 
     // how many words of scratch a product needs
@@ -53,5 +54,6 @@ pub trait Multiplier: Drop {
         ensures same_modulus { q self.new ≡ q self.old }
         ensures same_need { need self.new ≡ need self.old };
 
+    // there is such a ring, and the need is at most 65536 words
     ghost lawful: { (m : Self) → InRange (n m) (q m) (need m) };
 }

@@ -13,6 +13,7 @@ use std::marker::Model;
 pub struct QuotientRing {
     degree: usize,
     modulus: Modulus,
+    // one bit of the degree is set, so that it is a power of two
     ghost power: { count_ones degree ≡ 1 },
     ghost most: { degree ≤ LARGEST_DEGREE },
     ghost is_modulus: { IsModulus modulus },

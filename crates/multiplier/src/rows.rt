@@ -17,6 +17,7 @@ pub(crate) struct Rows<'a> {
     words: &'a [u32],
     modulus: u32,
     ghost is_modulus: { IsModulus modulus },
+    // with such lists no sum of 64 bits overflows
     ghost fit: { AreRows left.now words.now },
 }
 
