@@ -10,8 +10,8 @@ pub fn derivation_laws()
     ensures { DerivationLaws }
 {}
 
-/// How many bits and bytes a number takes in each number set, how many bytes a seed expands to, and
-/// an element that was worked out by hand.
+/// How many bits and bytes a number takes in each number set, how many bytes SHAKE128 gives for a
+/// seed, and an element that was worked out by hand.
 pub fn derivation_values()
     ensures { DerivationValues }
 {}

@@ -6,8 +6,8 @@ ghost use Rattle.keccak.specs.Sponge.{rate, padding, added, absorbed, output_blo
 
 use crate::permutation::keccak_f;
 
-/// The length in bytes of a block, which is the part of a message that is absorbed, or of an output
-/// that is squeezed, between two permutations of the state.
+/// The length of a block in bytes. A block is the part of a message that is absorbed, or of an
+/// output that is squeezed, between two permutations of the state.
 pub const RATE: usize = 168;
 
 /// A sponge that has absorbed a message. It permutes when a block is asked for, and not after.
