@@ -39,8 +39,10 @@ pub trait Reconciler {
     /// The numbers of the reconciler.
     const NUMBERS: ReconcilerNumbers;
 
+    // NUMBERS, as clauses know it
     ghost NUMBERS: { ReconcilerNumbers };
 
+    // its signal, key bit and reading as functions of the modulus
     ghost meaning: { Reconciliation };
 
     /// The signal and the key bit of a residue and a coin.
@@ -51,5 +53,7 @@ pub trait Reconciler {
     fn read(q: Modulus, y: u32, signal: u32) -> Result<u32, Fault>
         ensures { result ≡ read_outcome_at NUMBERS meaning q y signal };
 
+    // the law: small numbers, and what a profile asks of a reconciler at each modulus with
+    // floor(q / 8) at least 1
     ghost sound: { Sound NUMBERS meaning };
 }
