@@ -1,6 +1,6 @@
 -- The Ding reconciler tolerates the differences that it states, and its signal leaves the key bit open.
 use Rattle.std.specs.Prelude.{◌≡◌, ℕ, ◌+◌, ◌-◌, ◌*◌, ◌/◌, ◌%◌, ◌<◌, ◌≤◌, Bool, true, false, cond, ◌&&◌, ℤ, pos, negsuc, ◌+ℤ◌, neg_ℤ, ◌==◌, int_le, unsigned_abs, refl}
-use Rattle.std.proofs.Common.{inr, ⊎_elim, sym, ap, ◌∙◌, subst, mod-lt, arith, below_more, below_none, lit<, lit≤}
+use Rattle.std.proofs.Common.{⊎_elim, sym, ap, ◌∙◌, subst, mod-lt, arith, rules, below_more, below_none, lit<, lit≤}
 use Rattle.std.proofs.lemmas.Int.{ints}
 use Rattle.std.proofs.lemmas.Bool.{cases_lt, cond_both}
 use Rattle.ring.specs.Residues.{residue, signed, IsModulus}
@@ -229,16 +229,6 @@ module _ (q : ℕ) (is : IsModulus q) where
 
 pub ding_sound : Sound ding_numbers ding_functions
 ding_sound = record {
-  small = record {
-    step_is = inr refl;
-    coins_least = lit≤ tt;
-    coins_most = lit≤ tt;
-    width_least = lit≤ tt;
-    width_most = lit≤ tt;
-    byte_below = lit< tt;
-    times_most = lit≤ tt;
-    less_most = lit≤ tt;
-    shift_most = lit≤ tt;
-  };
+  small = search rules;
   at = λ q is eighth. ding_reconciles q is;
 }

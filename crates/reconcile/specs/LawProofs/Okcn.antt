@@ -1,6 +1,6 @@
 -- OKCN: the eight bands of 0 .. 2q - 1, what is read near one, and how many residues each has.
 use Rattle.std.specs.Prelude.{◌≡◌, ℕ, zero, suc, ◌+◌, ◌-◌, ◌*◌, ◌/◌, ◌%◌, ◌<◌, ◌≤◌, ◌&&◌, ℤ, pos, negsuc, ◌+ℤ◌, ◌-ℤ◌, ◌*ℤ◌, Ok, Err, Decides, Result, ◌==◌, unsigned_abs, refl}
-use Rattle.std.proofs.Common.{inl, ◌∙◌, ap, add-mul, mul_assoc, mul_left_comm, mul-le-mul_right, div-add-mod', div-mul-le_self, arith, lit<, lit≤}
+use Rattle.std.proofs.Common.{◌∙◌, ap, add-mul, mul_assoc, mul_left_comm, mul-le-mul_right, div-add-mod', div-mul-le_self, arith, rules}
 use Rattle.std.proofs.Math.Nat.{div-eq_of_lt-le, lt-div-mul-add, add-mul-div_right, mul-add-div_right}
 use Rattle.std.proofs.lemmas.Nat.{div_below, mod_below, div-mul-add}
 use Rattle.std.proofs.lemmas.Int.{ints, int_rem_euclid_is}
@@ -145,16 +145,6 @@ okcn_reconciles q is =
 
 pub okcn_sound : Sound okcn_numbers okcn_functions
 okcn_sound = record {
-  small = record {
-    step_is = inl refl;
-    coins_least = lit≤ tt;
-    coins_most = lit≤ tt;
-    width_least = lit≤ tt;
-    width_most = lit≤ tt;
-    byte_below = lit< tt;
-    times_most = lit≤ tt;
-    less_most = lit≤ tt;
-    shift_most = lit≤ tt;
-  };
+  small = search rules;
   at = λ q is eighth. okcn_reconciles q is;
 }
