@@ -49,6 +49,10 @@ floor_parity (negsuc a) n k m h e =
     let whole : m ≡ w * n + (n - 1 - a % n) = omega (arith, div-add-mod' a n) in
     omega (arith, ap (λ i. i / n) whole ∙ div-mul-add w n (n - 1 - a % n) (omega arith))
 
+-- four times the number that the band v of the half b starts at
+band_start : (q b v : ℕ) → (4 * b + v) * q ≡ 4 * (b * q) + v * q
+band_start q b v = add-mul (4 * b) v q ∙ ap (λ n. n + v * q) (mul_assoc 4 b q)
+
 module _ (q x coin : ℕ) (positive : 0 < q) where
   -- the number of the band, of the eight, that z = 2x + coin lies in
   pub band_number : 4 * (2 * x + coin) / q ≡ 4 * okcn_key_bit q x coin + okcn_signal q x coin
@@ -96,8 +100,7 @@ pub reconciled_from : (q x coin b rest v : ℕ) → x < q → coin < 2 → b * q
     → v < 4 → v * q ≤ 4 * rest → 4 * rest < v * q + q
     → Ok (v, b) ≡ reconciled q 2 (okcn_signal q) (okcn_key_bit q) x coin
 reconciled_from q x coin b rest v h l z-is few from to =
-    let start : (4 * b + v) * q ≡ 4 * (b * q) + v * q =
-    add-mul (4 * b) v q ∙ ap (λ n. n + v * q) (mul_assoc 4 b q) in
+    let start = band_start q b v in
     let at = band_at q x coin (omega arith) b v few (omega arith) (omega arith) in
     let is : ◌≡◌ {A = Result (ℕ × ℕ) Fault} (Ok (v, b))
     (Ok (okcn_signal q x coin, okcn_key_bit q x coin)) = cc in
@@ -135,8 +138,7 @@ module _ (q x coin : ℕ) (at_least : 3 ≤ q) (h : x < q) (l : coin < 2) where
       let moved = residue_shifted q x ((3 * q - 8) / 16) d positive (omega arith) near in
       let m = moved.0 in
       let band = band_from_to q x coin positive k v refl refl in
-      let start : (4 * k + v) * q ≡ 4 * (k * q) + v * q =
-      add-mul (4 * k) v q ∙ ap (λ n. n + v * q) (mul_assoc 4 k q) in
+      let start = band_start q k v in
       let most : v * q ≤ 3 * q = mul-le-mul_right q (omega arith) in
       let floor : (k + 4) * (8 * q) ≡ 8 * (k * q) + 32 * q =
       omega (arith, add-mul k 4 (8 * q), mul_left_comm k 8 q) in
