@@ -14,7 +14,8 @@ pub fn exported_round(profile: u8, x: u32) -> u64
     by_index!(profile, P::round(x).code())
 }
 
-/// The residue that the rounded value y recovers to.
+/// The integer that the rounded value y recovers to, before it is reduced modulo q: it may be q or
+/// more.
 pub fn exported_recover(profile: u8, y: u32) -> u64
     ensures { result ≡ recover_code profile y }
 {

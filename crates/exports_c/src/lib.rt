@@ -70,7 +70,8 @@ pub extern "C" fn exported_round(profile: u8, x: u32) -> u64
     exports::exported_round(profile, x)
 }
 
-/// The residue that the rounded value y recovers to.
+/// The integer that the rounded value y recovers to, before it is reduced modulo q: it may be q or
+/// more.
 #[unsafe(no_mangle)]
 pub extern "C" fn exported_recover(profile: u8, y: u32) -> u64
     ensures { result ≡ recover_code profile y }

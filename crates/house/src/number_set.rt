@@ -30,8 +30,10 @@ pub trait NumberSet {
     /// The numbers of the set.
     const SIZES: Sizes;
 
+    // SIZES, as clauses know it
     ghost SIZES: { Sizes };
 
+    // the law: what makes a lawful profile of the set with any reconciler
     ghost admissible: { Admissible SIZES };
 }
 

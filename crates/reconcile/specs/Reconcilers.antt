@@ -15,11 +15,11 @@ pub record Reconciliation : Type 0 where
 
 -- what is reconciled and what is read at the modulus q
 module _ (k : ReconcilerNumbers) (f : Reconciliation) (q : ℕ) where
-  abbrev pub reconcile_outcome : ℕ → ℕ → Result (ℕ × ℕ) Fault
-  reconcile_outcome x coin = reconciled q k.coins (f.signal q) (f.key_bit q) x coin
+  abbrev pub reconcile_outcome_at : ℕ → ℕ → Result (ℕ × ℕ) Fault
+  reconcile_outcome_at x coin = reconciled q k.coins (f.signal q) (f.key_bit q) x coin
 
-  abbrev pub read_outcome : ℕ → ℕ → Result ℕ Fault
-  read_outcome y signal = key_bit_read q k.signal_width (f.read q) y signal
+  abbrev pub read_outcome_at : ℕ → ℕ → Result ℕ Fault
+  read_outcome_at y signal = key_bit_read q k.signal_width (f.read q) y signal
 
 -- the largest difference that is tolerated at the modulus q
 abbrev pub tolerance : ReconcilerNumbers → ℕ → ℕ

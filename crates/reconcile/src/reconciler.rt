@@ -2,7 +2,7 @@
 
 ghost use Rattle.std.specs.Prelude.{◌≡◌};
 ghost use Rattle.reconcile.specs.Reconcilers.{Reconciliation, Sound};
-ghost use Rattle.reconcile.specs.Reconcilers.{reconcile_outcome, read_outcome};
+ghost use Rattle.reconcile.specs.Reconcilers.{reconcile_outcome_at, read_outcome_at};
 ghost use Rattle.reconcile.specs.declared.reconciler.ReconcilerNumbers.{ReconcilerNumbers};
 
 use ring::{Fault, Modulus};
@@ -39,17 +39,21 @@ pub trait Reconciler {
     /// The numbers of the reconciler.
     const NUMBERS: ReconcilerNumbers;
 
+    // NUMBERS, as clauses know it
     ghost NUMBERS: { ReconcilerNumbers };
 
+    // its signal, key bit and reading as functions of the modulus
     ghost meaning: { Reconciliation };
 
     /// The signal and the key bit of a residue and a coin.
     fn reconcile(q: Modulus, x: u32, coin: u8) -> Result<(u32, u32), Fault>
-        ensures { result ≡ reconcile_outcome NUMBERS meaning q x coin };
+        ensures { result ≡ reconcile_outcome_at NUMBERS meaning q x coin };
 
     /// The key bit that a residue and the other end's signal give.
     fn read(q: Modulus, y: u32, signal: u32) -> Result<u32, Fault>
-        ensures { result ≡ read_outcome NUMBERS meaning q y signal };
+        ensures { result ≡ read_outcome_at NUMBERS meaning q y signal };
 
+    // the law: small numbers, and what a profile asks of a reconciler at each modulus with
+    // floor(q / 8) at least 1
     ghost sound: { Sound NUMBERS meaning };
 }

@@ -1,7 +1,7 @@
-//! Prints the sections of messages. Each line of the input is the kind that a message is read as, a
-//! space, and the message in hexadecimal. It is read by the house profile that its head names, or
-//! else by T with Ding. What reading refuses is told by its fault. What it accepts is written again
-//! from its parts, and the program ends with an error where that gives other bytes.
+//! Prints the sections of messages. Each line of the input is the kind that a message is read as,
+//! a space, and the message in hexadecimal. It is read by the house profile that its head names,
+//! or else by T with Ding. What reading refuses is told by its fault. What it accepts is written
+//! again from its parts, and the program ends with an error where that gives other bytes.
 
 #![tactic(auto)]
 

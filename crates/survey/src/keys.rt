@@ -29,8 +29,8 @@ pub fn last_signal<P: Profile>() -> u32
     (1u32 << P::NUMBERS.signal_width) - 1
 }
 
-/// How many residues a coin gives this signal with key bit 0, and how many with key bit 1. A signal
-/// out of range is refused before a coin out of range.
+/// How many residues a coin gives this signal with key bit 0, and how many with key bit 1. A
+/// signal out of range is refused before a coin out of range.
 #[tactic(auto, using(crate::proofs::Measures::count_more))]
 pub fn count_keys<P: Profile>(coin: u8, signal: u32) -> Result<KeyCounts, Fault>
     ensures outcome { result ≡ keys_outcome P.NUMBERS P.functions coin signal }

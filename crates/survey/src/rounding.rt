@@ -13,7 +13,8 @@ pub struct RoundingSurvey {
     pub least: i32,
     /// The largest distance.
     pub largest: i32,
-    /// How many residues are as near to what the value a step above their rounded one recovers to.
+    /// How many residues are ties: each lies midway between what its rounded value and the next
+    /// value of its class recover to, so that it could be rounded to either.
     pub ties: u32,
 }
 

@@ -20,10 +20,13 @@ module _ (s : Sizes) (admits : Admissible s) where
   -- what two products can differ by is no less than one error, so that an eighth of the circle holds it
   pub eighth_some : 1 ≤ s.q / 8
   eighth_some =
-      let one : (2 * 1) * 1 ≤ (2 * s.l) * (s.e + s.rounding) = mul-le (2 * 1) 1 (2 * s.l) (s.e + s.rounding) (omega (arith, admits.l_least)) (omega (arith, admits.e_least)) in
+      let one : (2 * 1) * 1 ≤ (2 * s.l) * (s.e + s.rounding) =
+      mul-le (2 * 1) 1 (2 * s.l) (s.e + s.rounding)
+      (omega (arith, admits.l_least)) (omega (arith, admits.e_least)) in
       omega (arith, admits.within_eighth)
 
-module _ (s : Sizes) (k : ReconcilerNumbers) (f : Reconciliation) (admits : Admissible s) (sound : Sound k f) where
+module _ (s : Sizes) (k : ReconcilerNumbers) (f : Reconciliation) (admits : Admissible s)
+    (sound : Sound k f) where
   reconciles : Reconciles k f s.q
   reconciles = sound.at s.q admits.modulus (eighth_some s admits)
 
@@ -34,8 +37,10 @@ module _ (s : Sizes) (k : ReconcilerNumbers) (f : Reconciliation) (admits : Admi
   tolerated : 2 * s.l * (k.step * s.e + k.step * s.rounding) ≤ tolerance k s.q
   tolerated =
       let same : 2 * s.l * (k.step * s.e + k.step * s.rounding) ≡ k.step * (2 * s.l * (s.e + s.rounding)) =
-      ap (λ t. 2 * s.l * t) (sym (mul-add k.step s.e s.rounding)) ∙ mul_left_comm (2 * s.l) k.step (s.e + s.rounding) in
-      let eighth : k.step * (2 * s.l * (s.e + s.rounding)) ≤ k.step * (s.q / 8 - 1) = mul-le-mul_left k.step admits.within_eighth in
+      ap (λ t. 2 * s.l * t) (sym (mul-add k.step s.e s.rounding))
+      ∙ mul_left_comm (2 * s.l) k.step (s.e + s.rounding) in
+      let eighth : k.step * (2 * s.l * (s.e + s.rounding)) ≤ k.step * (s.q / 8 - 1) =
+      mul-le-mul_left k.step admits.within_eighth in
       omega (arith, reconciles.tolerance_least)
 
   pub house_in_range : InRange (house_numbers s k)
@@ -49,7 +54,11 @@ module _ (s : Sizes) (k : ReconcilerNumbers) (f : Reconciliation) (admits : Admi
     whole_bytes = admits.whole_bytes;
     e_least = admits.e_least;
     l_least = admits.l_least;
-    r_below = ⊎_elim (λ e. rw e (omega (arith, admits.rounding_below))) (λ e. rw e (omega (arith, admits.rounding_below))) sound.small.step_is;
+    r_below =
+        ⊎_elim
+        (λ e. rw e (omega (arith, admits.rounding_below)))
+        (λ e. rw e (omega (arith, admits.rounding_below)))
+        sound.small.step_is;
     tau_below = reconciles.tolerance_below;
     step_is = sound.small.step_is;
     coins_least = sound.small.coins_least;
@@ -68,7 +77,9 @@ module _ (s : Sizes) (k : ReconcilerNumbers) (f : Reconciliation) (admits : Admi
     bit_range = reconciles.bit_range;
     read_range = reconciles.read_range;
     round_range = λ x h. round_within s.q s.p k.step positive admits.p_below sound.small.step_is x;
-    round_near = round_near s.q s.p k.step positive admits.p_below sound.small.step_is s.rounding admits.rounding_reaches;
+    round_near =
+        round_near s.q s.p k.step positive admits.p_below sound.small.step_is
+        s.rounding admits.rounding_reaches;
     reads_within = reconciles.reads_within;
     balanced = reconciles.balanced;
     within_tolerance = tolerated;

@@ -1,13 +1,18 @@
--- Recovering and rounding: what is recovered, that a rounded value is a nearest one, and how far rounding moves a residue.
-use Rattle.std.specs.Prelude.{◌≡◌, ℕ, zero, suc, ◌+◌, ◌-◌, ◌*◌, ◌/◌, ◌%◌, ◌<◌, ◌≤◌, ◌⊎◌, pos, ◌-ℤ◌, unsigned_abs}
-use Rattle.std.proofs.Common.{⊎_elim, sym, ap, subst, ◌∙◌, le_refl, mod-lt, mod-eq_of_lt, mul-le-mul_right, arith}
-use Rattle.std.proofs.Math.Nat.{mod-le, mod-mod, mod-eq-sub-mod, add-mod_right, add-mul-mod_self_left, mul-div_right}
+-- Recovering and rounding: what is recovered, that a rounded value is a nearest one, and how far rounding
+-- moves a residue.
+use Rattle.std.specs.Prelude.{◌≡◌, ℕ, zero, suc, ◌+◌, ◌-◌, ◌*◌, ◌/◌}
+use Rattle.std.specs.Prelude.{◌%◌, ◌<◌, ◌≤◌, ◌⊎◌, pos, ◌-ℤ◌, unsigned_abs}
+use Rattle.std.proofs.Common.{⊎_elim, sym, ap, subst, ◌∙◌, le_refl, mod-lt}
+use Rattle.std.proofs.Common.{mod-eq_of_lt, mul-le-mul_right, arith}
+use Rattle.std.proofs.Math.Nat.{mod-le, mod-mod, mod-eq-sub-mod, add-mod_right}
+use Rattle.std.proofs.Math.Nat.{add-mul-mod_self_left, mul-div_right}
 use Rattle.std.proofs.lemmas.Int.{ints}
 use Rattle.std.proofs.lemmas.Bool.{cases_lt}
 use Rattle.std.proofs.lemmas.Bool.Decides.{nat_tests}
 use Rattle.profile.specs.Laws.{MultipleWithin}
 use Rattle.house.specs.Rounding.{recover, candidate, round, argmin, distance, IsRecovered}
-use Rattle.house.specs.LawProofs.Classes.{by_step, next_class, next_least, distance_multiple, multiple_below, place_is, place_up, place_within}
+use Rattle.house.specs.LawProofs.Classes.{by_step, next_class, next_least, distance_multiple}
+use Rattle.house.specs.LawProofs.Classes.{multiple_below, place_is, place_up, place_within}
 use Rattle.house.specs.LawProofs.Floors.{floor_grows, floor_gap, floor_most}
 
 -- ---- a place of the least
@@ -22,13 +27,16 @@ argmin_least cost (suc last) i h = let before = argmin_least cost last i in grin
 
 -- ---- what is recovered
 
-pub recover_form : (q p step y : ℕ) → (step ≡ 1) ⊎ (step ≡ 2) → recover q p step y ≡ y * q / p + (y * q / p + y) % step
+pub recover_form : (q p step y : ℕ) → (step ≡ 1) ⊎ (step ≡ 2)
+    → recover q p step y ≡ y * q / p + (y * q / p + y) % step
 recover_form q p step y either =
-    by_step (λ s. recover q p s y ≡ y * q / p + (y * q / p + y) % s) step either (grind (arith, nat_tests)) (grind (arith, nat_tests))
+    by_step (λ s. recover q p s y ≡ y * q / p + (y * q / p + y) % s) step either
+    (grind (arith, nat_tests)) (grind (arith, nat_tests))
 
 module _ (q p step : ℕ) (parts : 0 < p) (less : p < q) (either : (step ≡ 1) ⊎ (step ≡ 2)) where
   pub recover_most : (y : ℕ) → recover q p step y < y * q / p + step
-  recover_most y = rw (recover_form q p step y either) (omega (arith, mod-lt (y * q / p + y) {m = step} (omega arith)))
+  recover_most y =
+      rw (recover_form q p step y either) (omega (arith, mod-lt (y * q / p + y) {m = step} (omega arith)))
 
   pub recover_is : (y : ℕ) → IsRecovered q p step y (recover q p step y)
   recover_is y =
@@ -46,7 +54,8 @@ module _ (q p step : ℕ) (parts : 0 < p) (less : p < q) (either : (step ≡ 1) 
   pub recover_up : (y z : ℕ) → y ≤ z → z % step ≡ y % step → recover q p step y ≤ recover q p step z
   recover_up y z h e =
       let grows = floor_grows q p parts less y 0 z (omega arith) in
-      (recover_is y).least (recover q p step z) (omega (arith, (recover_is z).above)) ((recover_is z).class ∙ e)
+      (recover_is y).least (recover q p step z) (omega (arith, (recover_is z).above))
+      ((recover_is z).class ∙ e)
 
   pub recover_step : (y z : ℕ) → y + step ≤ z → recover q p step y < recover q p step z
   recover_step y z h =
@@ -66,22 +75,31 @@ module _ (q p step : ℕ) (parts : 0 < p) (less : p < q) (either : (step ≡ 1) 
       let last = (p - x % step) / step in
       add-mul-mod_self_left (x % step) step (argmin cost last) ∙ mod-mod x step
 
-  pub round_nearest : (x z : ℕ) → z ≤ p → z % step ≡ x % step → distance (recover q p step (round q p step x)) x ≤ distance (recover q p step z) x
+  pub round_nearest : (x z : ℕ) → z ≤ p → z % step ≡ x % step
+      → distance (recover q p step (round q p step x)) x ≤ distance (recover q p step z) x
   round_nearest x z h e =
       let cost : ℕ → ℕ = λ i. distance (recover q p step (candidate step x i)) x in
       let last = (p - x % step) / step in
       let place = (z - x % step) / step in
       let is : z ≡ candidate step x place = place_is step either x z e in
-      subst (λ n. cost (argmin cost last) ≤ distance (recover q p step n) x) (sym is) (argmin_least cost last place (place_up step either x z p h))
+      subst (λ n. cost (argmin cost last) ≤ distance (recover q p step n) x) (sym is)
+      (argmin_least cost last place (place_up step either x z p h))
 
   -- how far rounding moves a residue, where the floor grows by at most 2 rho + 1
   module _ (rho : ℕ) (gap : q ≤ p * (2 * rho + 1)) (x : ℕ) (below : x < q) where
     neighbours : (y z : ℕ) → z ≤ y + step → recover q p step z < recover q p step y + 2 * (step * rho + step)
     neighbours y z h =
-        omega (arith, recover_most z, floor_gap q p parts less (2 * rho + 1) gap y step z h, (recover_is y).above)
+        omega (
+          arith,
+          recover_most z,
+          floor_gap q p parts less (2 * rho + 1) gap y step z h,
+          (recover_is y).above,
+        )
 
     -- y is a nearest value of the class of x
-    module _ (y : ℕ) (range : y ≤ p) (class : y % step ≡ x % step) (nearest : (z : ℕ) → z ≤ p → z % step ≡ x % step → distance (recover q p step y) x ≤ distance (recover q p step z) x) where
+    module _ (y : ℕ) (range : y ≤ p) (class : y % step ≡ x % step)
+        (nearest : (z : ℕ) → z ≤ p → z % step ≡ x % step
+        → distance (recover q p step y) x ≤ distance (recover q p step z) x) where
       near_below : recover q p step y ≤ x → x < recover q p step y + step * rho + step
       near_below under = ⊎_elim at_end inside (cases_lt p (y + step))
         where
@@ -119,7 +137,11 @@ module _ (q p step : ℕ) (parts : 0 < p) (less : p < q) (either : (step ≡ 1) 
               omega (arith, neighbours low y (omega arith))
 
       nearest_near : distance (recover q p step y) x < step * rho + step
-      nearest_near = ⊎_elim (λ l. omega (arith, near_above l)) (λ l. omega (arith, near_below l)) (cases_lt x (recover q p step y))
+      nearest_near =
+          ⊎_elim
+          (λ l. omega (arith, near_above l))
+          (λ l. omega (arith, near_below l))
+          (cases_lt x (recover q p step y))
 
     pub round_near : MultipleWithin step (step * rho) (pos (recover q p step (round q p step x)) -ℤ pos x)
     round_near =

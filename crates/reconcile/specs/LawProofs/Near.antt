@@ -14,7 +14,8 @@ pub data Near (q x m y : ℕ) : Type 0 where
   below_wrapped : y + m ≡ x + q → Near q x m y
 
 -- the residue at the distance d from x, where d is shorter than the circle
-pub residue_near : (q x : ℕ) (d : ℤ) → x < q → unsigned_abs d < q → Near q x (unsigned_abs d) (residue q (pos x +ℤ d))
+pub residue_near : (q x : ℕ) (d : ℤ) → x < q → unsigned_abs d < q
+    → Near q x (unsigned_abs d) (residue q (pos x +ℤ d))
 residue_near q x (pos m) h k =
     ⊎_elim
     (λ stays. above (residue_pos q (x + m) stays))
