@@ -12,17 +12,19 @@ use std::marker::Model;
 pub struct Fields<'a> {
     pub(crate) width: Width,
     pub(crate) numbers: &'a [u32],
+    ghost fit: { AllFit width numbers.now },
 }
 
 impl<'a> Model for Fields<'a> {
     ghost use Rattle.packing.specs.Fields.{FittingNumbers};
-    ghost use Rattle.packing.specs.Packing.{AllFit};
 
     ghost Value = { FittingNumbers };
 
-    ghost view = { λ fields. record { width = fields.width; numbers = fields.numbers.now } };
-
-    ghost invariant = { λ fields. AllFit fields.width fields.numbers.now };
+    ghost view = { λ fields. record {
+      width = fields.width;
+      numbers = fields.numbers.now;
+      fit = fields.fit;
+    } };
 }
 
 impl<'a> Fields<'a> {
