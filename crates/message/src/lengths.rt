@@ -12,7 +12,6 @@ use profile::{Profile, SEED_LENGTH};
 
 /// What n numbers of a width take, packed one after another.
 fn packed<P: Profile>(width: Width) -> usize
-    requires { width ≤ 16 }
     ensures value { result ≡ packed_length P.NUMBERS.n width }
     ensures bound { result ≤ 2048 }
 {
