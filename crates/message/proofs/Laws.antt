@@ -4,7 +4,7 @@ use Rattle.message.specs.MessageLaws.{MessageLaws}
 use Rattle.message.proofs.Accepting.{writes_lawful_parts}
 use Rattle.message.proofs.Alike.{alike}
 use Rattle.message.proofs.LeastPlaces.{tells_wrong_shapes}
-use Rattle.message.proofs.Lines.{line_means}
+use Rattle.message.proofs.HexadecimalLines.{line_means}
 use Rattle.message.proofs.ReadBack.{reads_back}
 use Rattle.message.proofs.ReadingLaws.{reading_means}
 use Rattle.message.proofs.SpareLaws.{tells_spare_bits}

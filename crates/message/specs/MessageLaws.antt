@@ -9,7 +9,7 @@ use Rattle.packing.specs.PackingLaws.{SpareClear, bit_of}
 use Rattle.message.specs.declared.fault.Fault.TheVariants.{SpareBit}
 use Rattle.message.specs.declared.fixed_lengths.TheConstants.{COUNT_LENGTH, HEAD_LENGTH}
 use Rattle.message.specs.declared.kind.Kind.{Kind}
-use Rattle.message.specs.Lines.{LineTakesItsLength}
+use Rattle.message.specs.HexadecimalLines.{HexadecimalLineTakesItsLength}
 use Rattle.message.specs.Messages.{Message, HasLawfulParts, IsRound, encoded, kind_of, round_of}
 use Rattle.message.specs.Reading.{reading, spare_bit_fault}
 use Rattle.message.specs.ReadingLaws.{ReadingRefusesTheFirst, TellsWrongHeads, TellsWrongShapes}
@@ -73,7 +73,7 @@ pub record MessageLaws : Type 0 where
   pub tells_kind_profile_and_round : TellsKindProfileAndRound
   pub writing_refuses_the_first : WritingRefusesTheFirst
   pub writing_accepts_what_fits : WritingAcceptsWhatFits
-  pub line_takes_its_length : LineTakesItsLength
+  pub line_takes_its_length : HexadecimalLineTakesItsLength
   pub reading_refuses_the_first : ReadingRefusesTheFirst
   pub tells_wrong_shapes : TellsWrongShapes
   pub tells_wrong_heads : TellsWrongHeads
