@@ -60,7 +60,7 @@ pub fn answer_length<P: Profile>() -> usize
 pub fn confirmation_length() -> usize
     ensures { result ≡ confirmation_length }
 {
-    section(HEAD_LENGTH)
+    COUNT_LENGTH + HEAD_LENGTH
 }
 
 /// How many bytes a key has: one bit for each of n coefficients, packed.
