@@ -1,9 +1,10 @@
 -- The laws of messages.
+use Rattle.std.proofs.Common.{refl}
 use Rattle.message.specs.MessageLaws.{MessageLaws}
 use Rattle.message.proofs.Accepting.{writes_lawful_parts}
 use Rattle.message.proofs.Alike.{alike}
 use Rattle.message.proofs.LeastPlaces.{tells_wrong_shapes}
-use Rattle.message.proofs.Lines.{line_means}
+use Rattle.message.proofs.HexadecimalLines.{line_means}
 use Rattle.message.proofs.ReadBack.{reads_back}
 use Rattle.message.proofs.ReadingLaws.{reading_means}
 use Rattle.message.proofs.SpareLaws.{tells_spare_bits}
@@ -13,6 +14,7 @@ use Rattle.message.proofs.WrittenAgain.{is_written_from_its_parts}
 
 pub message_laws : MessageLaws
 message_laws = record {
+  fixed_lengths = record { count = refl; head = refl; seed = refl };
   writes_lawful_parts = writes_lawful_parts;
   reads_back = reads_back;
   is_written_from_its_parts = is_written_from_its_parts;

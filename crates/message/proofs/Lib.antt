@@ -12,6 +12,6 @@ pub mod SpareLaws
 pub mod WrongHeads
 pub mod ReadingLaws
 pub mod Laws
-pub mod Lines
+pub mod HexadecimalLines
 pub mod SpareBits
 pub mod Stretches

@@ -15,7 +15,7 @@ use Rattle.packing.proofs.Digits.{number_below}
 use Rattle.message.specs.declared.kind.Kind.TheVariants.{Offer, Answer, Confirmation}
 use Rattle.message.specs.Messages.{offer, answer, confirmation, AreNumbers, HasLawfulParts, IsRound, encoded, head}
 use Rattle.message.specs.MessageLaws.{ReadsBack}
-use Rattle.message.specs.Reading.{head_fault, reading, round_in, round_told, spare_bit_fault, spare_fault}
+use Rattle.message.specs.Reading.{head_fault, reading, round_in, round_read, spare_bit_fault, spare_fault}
 use Rattle.ring.specs.Faults.{unless}
 use Rattle.message.specs.Shapes.{contents, layout, offset}
 use Rattle.message.proofs.Heads.{head_right, round_back}
@@ -54,7 +54,7 @@ module _ (k : Numbers) (range : InRange k) where
       let long : AreLong (layout k Offer) cs = ((refl, omega arith), ((lawful.1.long, omega arith), ((packed_long k.n k.w values lawful.2, values_few), tt))) in
       let shape = row_right m [] 0 (layout k Offer) cs (three_in_a_row h seed v) refl long in
       let back = row_back m [] 0 (layout k Offer) cs (three_in_a_row h seed v) refl long in
-      let round_is : round_told k Offer m ≡ round = ap round_in back.0 ∙ round_back k Offer round lawful.0 in
+      let round_is : round_read k Offer m ≡ round = ap round_in back.0 ∙ round_back k Offer round lawful.0 in
       let right : head_fault k Offer (contents k Offer 0 m) ≡ None = ap (head_fault k Offer) back.0 ∙ head_right k Offer round in
       let values_are : unpacked k.w k.n (contents k Offer 2 m) ≡ values = ap (unpacked k.w k.n) back.1.1.0 ∙ numbers_back k.n k.w values lawful.2 in
       (λ j. unless (option_or (shape j) (option_or (right j) None)) (offer (round_is j) (back.1.0 j) (values_are j)))
@@ -69,7 +69,7 @@ module _ (k : Numbers) (range : InRange k) where
       let long : AreLong (layout k Answer) cs = ((refl, omega arith), ((packed_long k.n k.w values lawful.1, values_few), ((packed_long k.n k.signal_width signals lawful.2, signals_few), tt))) in
       let shape = row_right m [] 0 (layout k Answer) cs (three_in_a_row h v s) refl long in
       let back = row_back m [] 0 (layout k Answer) cs (three_in_a_row h v s) refl long in
-      let round_is : round_told k Answer m ≡ round = ap round_in back.0 ∙ round_back k Answer round lawful.0 in
+      let round_is : round_read k Answer m ≡ round = ap round_in back.0 ∙ round_back k Answer round lawful.0 in
       let right : head_fault k Answer (contents k Answer 0 m) ≡ None = ap (head_fault k Answer) back.0 ∙ head_right k Answer round in
       let at = offset k Answer 2 in
       let spare : spare_fault k Answer m ≡ None =
@@ -86,7 +86,7 @@ module _ (k : Numbers) (range : InRange k) where
       let alone : m ≡ row (h ∷ []) = sym (append-nil m) in
       let shape = row_right m [] 0 (layout k Confirmation) (h ∷ []) alone refl long in
       let back = row_back m [] 0 (layout k Confirmation) (h ∷ []) alone refl long in
-      let round_is : round_told k Confirmation m ≡ round = ap round_in back.0 ∙ round_back k Confirmation round is in
+      let round_is : round_read k Confirmation m ≡ round = ap round_in back.0 ∙ round_back k Confirmation round is in
       let right : head_fault k Confirmation (contents k Confirmation 0 m) ≡ None = ap (head_fault k Confirmation) back.0 ∙ head_right k Confirmation round in
       (λ j. unless (option_or (shape j) (option_or (right j) None)) (confirmation (round_is j)))
 

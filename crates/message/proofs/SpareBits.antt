@@ -38,7 +38,7 @@ module _ (n w at last used : ℕ) (bytes : List ℕ) (fit : AllFit 8 bytes) (is_
   limit : 2 ^ (n * w) ≡ 2 ^ used * 2 ^ (last * 8)
   limit = ap (λ e. 2 ^ e) bits ∙ pow-add 2 used (last * 8)
 
-  pub spare_set : 0 < get_or bytes last 0 / 2 ^ used → ◌≡◌ {A = Option Fault} (Some (SpareBit (at + last))) (spare_bit_fault n w at (packed_length n w) bytes)
+  spare_set : 0 < get_or bytes last 0 / 2 ^ used → ◌≡◌ {A = Option Fault} (Some (SpareBit (at + last))) (spare_bit_fault n w at (packed_length n w) bytes)
   spare_set high =
       let byte = get_or bytes last 0 in
       let most : 1 * 2 ^ used ≤ byte / 2 ^ used * 2 ^ used = mul-le-mul_right (2 ^ used) high in
@@ -46,7 +46,7 @@ module _ (n w at last used : ℕ) (bytes : List ℕ) (fit : AllFit 8 bytes) (is_
       let place : at + last ≡ at + packed_length n w - 1 = omega arith in
       ap (λ p. Some (SpareBit p)) place ∙ sym (cond-false _ _ _ (le-ltb (number 8 bytes) (2 ^ (n * w)) (omega (arith, limit, whole, reaches))))
 
-  pub spare_clear : get_or bytes last 0 / 2 ^ used ≤ 0 → ◌≡◌ {A = Option Fault} None (spare_bit_fault n w at (packed_length n w) bytes)
+  spare_clear : get_or bytes last 0 / 2 ^ used ≤ 0 → ◌≡◌ {A = Option Fault} None (spare_bit_fault n w at (packed_length n w) bytes)
   spare_clear low =
       let byte = get_or bytes last 0 in
       let X = 2 ^ (last * 8) in
@@ -54,3 +54,23 @@ module _ (n w at last used : ℕ) (bytes : List ℕ) (fit : AllFit 8 bytes) (is_
       let small : byte < 2 ^ used = omega (arith, ap (λ h. h * 2 ^ used) none, shr_split byte used, mod_below byte (2 ^ used) (pow_pos used)) in
       let most : (byte + 1) * X ≤ 2 ^ used * X = mul-le-mul_right X (omega arith) in
       sym (cond-true _ _ _ (lt-ltb (number 8 bytes) (2 ^ (n * w)) (omega (arith, limit, whole, front, most, add-mul byte 1 X, one-mul X))))
+
+-- the same of a profile's signals, which have so many bits
+module _ (k : Numbers) (range : InRange k) (at many : ℕ) (bytes : List ℕ) (fit : AllFit 8 bytes) (long : length bytes ≡ packed_length k.n k.signal_width) (is : many ≡ k.n * k.signal_width) where
+  abbrev last : ℕ
+  last = length bytes - 1
+
+  abbrev used : ℕ
+  used = many - 8 * last
+
+  is_last : length bytes ≡ last + 1
+  is_last = omega (arith, signals_least k range)
+
+  bits : k.n * k.signal_width ≡ used + last * 8
+  bits = omega (arith, signals_least k range)
+
+  pub signal_spare_set : 0 < get_or bytes last 0 / 2 ^ used → ◌≡◌ {A = Option Fault} (Some (SpareBit (at + last))) (spare_bit_fault k.n k.signal_width at (packed_length k.n k.signal_width) bytes)
+  signal_spare_set = spare_set k.n k.signal_width at last used bytes fit is_last long bits
+
+  pub signal_spare_clear : get_or bytes last 0 / 2 ^ used ≤ 0 → ◌≡◌ {A = Option Fault} None (spare_bit_fault k.n k.signal_width at (packed_length k.n k.signal_width) bytes)
+  signal_spare_clear = spare_clear k.n k.signal_width at last used bytes fit is_last long bits

@@ -1,5 +1,4 @@
 -- Faults of layer 2, messages: what is reported of one.
-use Rattle.std.specs.Prelude.{ℕ}
 use Rattle.ring.specs.Faults.{Report}
 use Rattle.message.specs.declared.fault.Fault.{Fault}
 use Rattle.message.specs.declared.fault.Fault.TheVariants.{WrongShape, WrongHead, SpareBit}
@@ -8,12 +7,3 @@ abbrev pub report : Fault → Report
 report (WrongShape place) = record { layer = 2; number = 7; place = place }
 report (WrongHead place) = record { layer = 2; number = 8; place = place }
 report (SpareBit place) = record { layer = 2; number = 9; place = place }
-
-abbrev pub layer_of : Fault → ℕ
-layer_of fault = (report fault).layer
-
-abbrev pub number_of : Fault → ℕ
-number_of fault = (report fault).number
-
-abbrev pub place_of : Fault → ℕ
-place_of fault = (report fault).place

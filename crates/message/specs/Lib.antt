@@ -4,7 +4,7 @@ pub mod Messages
 pub mod Sections
 pub mod Writing
 pub mod WritingLaws
-pub mod Lines
+pub mod HexadecimalLines
 pub mod Shapes
 pub mod Reading
 pub mod ReadingLaws

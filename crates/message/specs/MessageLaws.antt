@@ -2,12 +2,14 @@
 use Rattle.std.specs.Prelude.{◌≡◌, ℕ, ◌+◌, ◌*◌, ◌/◌, ◌≤◌, List, length, Ok, Some, None}
 use Rattle.profile.specs.Laws.{InRange}
 use Rattle.profile.specs.declared.numbers.Numbers.{Numbers}
+use Rattle.profile.specs.declared.seed.TheConstants.{SEED_LENGTH}
 use Rattle.packing.specs.Lengths.{packed_length}
 use Rattle.packing.specs.Packing.{AllFit}
 use Rattle.packing.specs.PackingLaws.{SpareClear, bit_of}
 use Rattle.message.specs.declared.fault.Fault.TheVariants.{SpareBit}
+use Rattle.message.specs.declared.fixed_lengths.TheConstants.{COUNT_LENGTH, HEAD_LENGTH}
 use Rattle.message.specs.declared.kind.Kind.{Kind}
-use Rattle.message.specs.Lines.{LineTakesItsLength}
+use Rattle.message.specs.HexadecimalLines.{HexadecimalLineTakesItsLength}
 use Rattle.message.specs.Messages.{Message, HasLawfulParts, IsRound, encoded, kind_of, round_of}
 use Rattle.message.specs.Reading.{reading, spare_bit_fault}
 use Rattle.message.specs.ReadingLaws.{ReadingRefusesTheFirst, TellsWrongHeads, TellsWrongShapes}
@@ -56,7 +58,14 @@ pub record WritesLawfulParts (k : Numbers) (m : Message) : Type 0 where
   pub is_bytes : AllFit 8 (encoded k m)
   pub accepted : write_outcome k m (message_length k (kind_of m)) ≡ Ok tt
 
+-- the lengths that no profile changes
+pub record FixedLengths : Type 0 where
+  pub count : COUNT_LENGTH ≡ 2
+  pub head : HEAD_LENGTH ≡ 7
+  pub seed : SEED_LENGTH ≡ 16
+
 pub record MessageLaws : Type 0 where
+  pub fixed_lengths : FixedLengths
   pub writes_lawful_parts :
       (k : Numbers) → InRange k → (m : Message) → HasLawfulParts k m → WritesLawfulParts k m
   pub reads_back : (k : Numbers) → InRange k → ReadsBack k
@@ -64,7 +73,7 @@ pub record MessageLaws : Type 0 where
   pub tells_kind_profile_and_round : TellsKindProfileAndRound
   pub writing_refuses_the_first : WritingRefusesTheFirst
   pub writing_accepts_what_fits : WritingAcceptsWhatFits
-  pub line_takes_its_length : LineTakesItsLength
+  pub line_takes_its_length : HexadecimalLineTakesItsLength
   pub reading_refuses_the_first : ReadingRefusesTheFirst
   pub tells_wrong_shapes : TellsWrongShapes
   pub tells_wrong_heads : TellsWrongHeads

@@ -23,19 +23,19 @@ use Rattle.message.specs.Shapes.{contents, layout, offset, shape_fault}
 abbrev pub round_in : List ℕ → ℕ
 round_in head = number 8 (drop 3 head)
 
-abbrev pub round_told : Numbers → Kind → List ℕ → ℕ
-round_told k kind message = round_in (contents k kind 0 message)
+abbrev pub round_read : Numbers → Kind → List ℕ → ℕ
+round_read k kind message = round_in (contents k kind 0 message)
 
 abbrev pub parts : Numbers → Kind → List ℕ → Message
 parts k Offer message =
-    offer (round_told k Offer message)
+    offer (round_read k Offer message)
     (contents k Offer 1 message)
     (unpacked k.w k.n (contents k Offer 2 message))
 parts k Answer message =
-    answer (round_told k Answer message)
+    answer (round_read k Answer message)
     (unpacked k.w k.n (contents k Answer 1 message))
     (unpacked k.signal_width k.n (contents k Answer 2 message))
-parts k Confirmation message = confirmation (round_told k Confirmation message)
+parts k Confirmation message = confirmation (round_read k Confirmation message)
 
 -- ---- refusals
 

@@ -1,7 +1,6 @@
 //! Why a message is refused.
 
 ghost use Rattle.std.specs.Prelude.{◌≡◌};
-ghost use Rattle.message.specs.Faults.{layer_of, number_of, place_of};
 
 /// Each case holds the place of the fault, an offset in the message. `layer`, `number` and `place`
 /// are what is reported of it.
@@ -17,16 +16,18 @@ pub enum Fault {
 }
 
 impl Fault {
+    ghost use Rattle.message.specs.Faults.{report};
+
     /// The layer that gives the fault: 2, messages.
     pub fn layer(self) -> u8
-        ensures { result ≡ layer_of self }
+        ensures { result ≡ (report self).layer }
     {
         2
     }
 
     /// The fault's number, from 7 to 9: those below are the ring's.
     pub fn number(self) -> u8
-        ensures { result ≡ number_of self }
+        ensures { result ≡ (report self).number }
     {
         match self {
             Fault::WrongShape(_) => 7,
@@ -37,7 +38,7 @@ impl Fault {
 
     /// The offset in the message.
     pub fn place(self) -> usize
-        ensures { result ≡ place_of self }
+        ensures { result ≡ (report self).place }
     {
         match self {
             Fault::WrongShape(place) | Fault::WrongHead(place) | Fault::SpareBit(place) => place,

@@ -1,7 +1,8 @@
-//! The lengths in bytes that are the same in every profile.
+//! The lengths of counts and heads, which are the same in every profile; that of a seed is
+//! `profile::SEED_LENGTH`.
 
-/// The count that each section has before its bytes.
+/// How many bytes the count takes that each section has before its bytes.
 pub(crate) const COUNT_LENGTH: usize = 2;
 
-/// A message's head.
+/// How many bytes a message's head has, without their count.
 pub const HEAD_LENGTH: usize = 7;

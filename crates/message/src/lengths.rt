@@ -10,16 +10,15 @@ use crate::widths::{key_width, signals_width, values_width};
 use packing::Width;
 use profile::{Profile, SEED_LENGTH};
 
-/// What n numbers of a width take, packed one after another.
+/// How many bytes n numbers of a width take, packed one after another.
 fn packed<P: Profile>(width: Width) -> usize
-    requires { width ≤ 16 }
     ensures value { result ≡ packed_length P.NUMBERS.n width }
     ensures bound { result ≤ 2048 }
 {
     width.packed_length(P::NUMBERS.n) as usize
 }
 
-/// A section has its count of bytes before it, in two bytes.
+/// How many bytes a section of so many bytes takes with its count.
 fn section(bytes: usize) -> usize
     requires { bytes ≤ 2048 }
     ensures { result ≡ section_length bytes }
@@ -27,7 +26,7 @@ fn section(bytes: usize) -> usize
     COUNT_LENGTH + bytes
 }
 
-/// The rounded values of an element.
+/// How many bytes the n rounded values of an element take, packed.
 pub fn values_length<P: Profile>() -> usize
     ensures value { result ≡ values_length P.NUMBERS }
     ensures bound { result ≤ 2048 }
@@ -35,7 +34,7 @@ pub fn values_length<P: Profile>() -> usize
     packed::<P>(values_width::<P>())
 }
 
-/// Its signals.
+/// How many bytes the n signals of an element take, packed.
 pub fn signals_length<P: Profile>() -> usize
     ensures value { result ≡ signals_length P.NUMBERS }
     ensures bound { result ≤ 2048 }
@@ -43,28 +42,28 @@ pub fn signals_length<P: Profile>() -> usize
     packed::<P>(signals_width::<P>())
 }
 
-/// Head, seed and rounded values.
+/// How many bytes an offer has: the sections of its head, seed and rounded values.
 pub fn offer_length<P: Profile>() -> usize
     ensures { result ≡ offer_length P.NUMBERS }
 {
     section(HEAD_LENGTH) + section(SEED_LENGTH) + section(values_length::<P>())
 }
 
-/// Head, rounded values and signals.
+/// How many bytes an answer has: the sections of its head, rounded values and signals.
 pub fn answer_length<P: Profile>() -> usize
     ensures { result ≡ answer_length P.NUMBERS }
 {
     section(HEAD_LENGTH) + section(values_length::<P>()) + section(signals_length::<P>())
 }
 
-/// The head alone, in every profile.
+/// How many bytes a confirmation has, in every profile: the section of its head.
 pub fn confirmation_length() -> usize
     ensures { result ≡ confirmation_length }
 {
-    section(HEAD_LENGTH)
+    COUNT_LENGTH + HEAD_LENGTH
 }
 
-/// One bit for each coefficient.
+/// How many bytes a key has: one bit for each of n coefficients, packed.
 pub fn key_length<P: Profile>() -> usize
     ensures { result ≡ key_length P.NUMBERS }
 {

@@ -5,9 +5,9 @@
 mod fault;
 mod fixed_lengths;
 mod head;
+mod hexadecimal;
 mod kind;
 mod lengths;
-mod line;
 mod parts;
 mod reading;
 mod section;
@@ -18,13 +18,12 @@ mod writing;
 
 pub use fault::Fault;
 pub use fixed_lengths::HEAD_LENGTH;
+pub use hexadecimal::hexadecimal_line;
 pub use kind::Kind;
 pub use lengths::{
     answer_length, confirmation_length, key_length, offer_length, signals_length, values_length,
 };
-pub use line::hexadecimal_line;
 pub use parts::{Answer, Confirmation, Offer};
-pub use profile::SEED_LENGTH;
 pub use reading::{read_answer, read_confirmation, read_offer};
 pub use section::{AnswerSections, ConfirmationSections, OfferSections, Section};
 pub use theorems::message_laws;

@@ -6,7 +6,7 @@ use profile::SEED_LENGTH;
 use std::marker::Model;
 
 /// The parts of an offer.
-#[derive(Drop)]
+#[derive(Clone, Drop)]
 pub struct Offer<'a> {
     /// the exchange's number
     pub round: u32,
@@ -23,7 +23,7 @@ impl<'a> Model for Offer<'a> {
 }
 
 /// The parts of an answer.
-#[derive(Drop)]
+#[derive(Clone, Drop)]
 pub struct Answer<'a> {
     /// the offer's round
     pub round: u32,

@@ -5,21 +5,21 @@ ghost use Rattle.std.specs.Prelude.{◌≡◌};
 use packing::Width;
 use profile::Profile;
 
-/// That of rounded values.
+/// The width of a rounded value: how many bits it is packed in.
 pub fn values_width<P: Profile>() -> Width
     ensures { result ≡ P.NUMBERS.w }
 {
     Width::new(P::NUMBERS.w).unwrap()
 }
 
-/// That of signals.
+/// The width of a signal: how many bits it is packed in.
 pub fn signals_width<P: Profile>() -> Width
     ensures { result ≡ P.NUMBERS.signal_width }
 {
     Width::new(P::NUMBERS.signal_width).unwrap()
 }
 
-/// That of key bits, in every profile.
+/// The width of a key bit, in every profile: one bit.
 pub fn key_width() -> Width
     ensures { result ≡ 1 }
 {

@@ -1,10 +1,14 @@
 //! Writing messages from their parts.
 
-ghost use Rattle.std.specs.Prelude.{◌≡◌, length};
+ghost use Rattle.std.specs.Prelude.{◌≡◌, Ok, OnOk, length};
 ghost use Rattle.ring.specs.Faults.{after};
 ghost use Rattle.message.specs.Messages.{encoded};
+ghost use Rattle.message.specs.Reading.{reading};
 ghost use Rattle.message.specs.Writing.{write_outcome};
 ghost use Rattle.message.specs.WritingLaws.{WriteMeans};
+ghost use Rattle.message.specs.declared.kind.Kind.TheVariants.{Offer as OfferKind};
+ghost use Rattle.message.specs.declared.kind.Kind.TheVariants.{Answer as AnswerKind};
+ghost use Rattle.message.specs.declared.kind.Kind.TheVariants.{Confirmation as ConfirmationKind};
 
 use crate::head::head;
 use crate::kind::Kind;
@@ -24,6 +28,7 @@ impl Offer<'_> {
         ensures outcome { result ≡ write_outcome P.NUMBERS self.entry (length out.old) }
         ensures means { WriteMeans P.NUMBERS self.entry (length out.old) result }
         ensures writes { out.new ≡ after result (encoded P.NUMBERS self.entry) out.old }
+        ensures reads_back { OnOk result (reading P.NUMBERS OfferKind out.new ≡ Ok self.entry) }
     {
         let Offer {
             round,
@@ -50,6 +55,7 @@ impl Answer<'_> {
         ensures outcome { result ≡ write_outcome P.NUMBERS self.entry (length out.old) }
         ensures means { WriteMeans P.NUMBERS self.entry (length out.old) result }
         ensures writes { out.new ≡ after result (encoded P.NUMBERS self.entry) out.old }
+        ensures reads_back { OnOk result (reading P.NUMBERS AnswerKind out.new ≡ Ok self.entry) }
     {
         let Answer {
             round,
@@ -82,6 +88,7 @@ impl Confirmation {
         ensures outcome { result ≡ write_outcome P.NUMBERS self (length out.old) }
         ensures means { WriteMeans P.NUMBERS self (length out.old) result }
         ensures writes { out.new ≡ after result (encoded P.NUMBERS self) out.old }
+        ensures reads_back { OnOk result (reading P.NUMBERS ConfirmationKind out.new ≡ Ok self) }
     {
         if out.len() != confirmation_length() {
             return Err(Fault::WrongLength(place::OUTPUT));

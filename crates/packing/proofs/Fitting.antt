@@ -12,11 +12,11 @@ use Rattle.ring.proofs.Elements.{all_below, all_below_reaches, is_first_not_belo
 use Rattle.packing.specs.Packing.{AllFit}
 
 -- what the first place that does not fit says of the numbers
-pub ruleset where_it_stops = (all_below, is_first_not_below)
+pub ruleset first_not_fitting = (all_below, is_first_not_below)
 
 -- numbers that are all at most one that fits
-pub front_is_whole : (w : ℕ) (xs : List ℕ) (most : ℕ) → All (λ x. x ≤ most) xs → most < 2 ^ w → length xs ≡ first_not_below (2 ^ w) xs
-front_is_whole w xs most within fits =
+pub all_before_first : (w : ℕ) (xs : List ℕ) (most : ℕ) → All (λ x. x ≤ most) xs → most < 2 ^ w → length xs ≡ first_not_below (2 ^ w) xs
+all_before_first w xs most within fits =
     let fit : AllFit w xs = λ k d inside. omega (arith, within k d inside) in
     omega (arith, all_below_reaches (2 ^ w) xs fit, prefix_len-le-length (λ x. ltb x (2 ^ w)) xs)
 

@@ -12,22 +12,24 @@ use std::marker::Model;
 pub struct Fields<'a> {
     pub(crate) width: Width,
     pub(crate) numbers: &'a [u32],
+    ghost fit: { AllFit width numbers.now },
 }
 
 impl<'a> Model for Fields<'a> {
     ghost use Rattle.packing.specs.Fields.{FittingNumbers};
-    ghost use Rattle.packing.specs.Packing.{AllFit};
 
     ghost Value = { FittingNumbers };
 
-    ghost view = { λ fields. record { width = fields.width; numbers = fields.numbers.now } };
-
-    ghost invariant = { λ fields. AllFit fields.width fields.numbers.now };
+    ghost view = { λ fields. record {
+      width = fields.width;
+      numbers = fields.numbers.now;
+      fit = fields.fit;
+    } };
 }
 
 impl<'a> Fields<'a> {
     /// The list, or the index of the first number that has more bits than the width.
-    #[tactic(auto, using(crate::proofs::Fitting::where_it_stops))]
+    #[tactic(auto, using(crate::proofs::Fitting::first_not_fitting))]
     pub fn check(width: Width, numbers: &'a [u32]) -> Result<Self, usize>
         ensures outcome { MatchResult result
             (λ _. length numbers.now ≤ first_not_below (2 ^ width) numbers.now)
@@ -48,7 +50,7 @@ impl<'a> Fields<'a> {
 
 /// The index of the first number that has more bits than the width; where none has, how many there
 /// are.
-#[tactic(auto, using(crate::proofs::Fitting::front_is_whole))]
+#[tactic(auto, using(crate::proofs::Fitting::all_before_first))]
 fn first_not_fitting(width: Width, numbers: &[u32]) -> usize
     ensures { result ≡ first_not_below (2 ^ width) numbers.now }
 {

@@ -27,7 +27,7 @@ impl Fields<'_> {
         if output.len() as u128 != width.packed_length(numbers.len()) {
             return Err(Fault::WrongLength(place::OUTPUT));
         }
-        pack_numbers(width.bits(), numbers, output);
+        pack_numbers(width, numbers, output);
         Ok(())
     }
 }
@@ -51,29 +51,27 @@ impl Width {
 }
 
 /// Writes the bytes of the numbers, eight at a time: so many take whole bytes.
-fn pack_numbers(bits: u32, numbers: &[u32], output: &mut [u8])
-    requires narrow { bits ≤ 16 }
-    requires fit { AllFit bits numbers.now }
-    requires long { length output.old ≡ packed_length (length numbers.now) bits }
-    ensures { output.new ≡ packed bits numbers.now }
+fn pack_numbers(width: Width, numbers: &[u32], output: &mut [u8])
+    requires fit { AllFit width numbers.now }
+    requires long { length output.old ≡ packed_length (length numbers.now) width }
+    ensures { output.new ≡ packed width numbers.now }
 {
-    let size = bits as usize;
+    let size = width.bits() as usize;
     let (eights, rest) = numbers.as_chunks::<8>();
     for (i, eight) in eights.iter().enumerate() {
-        pack_eight(bits, eight, &mut output[i * size..(i + 1) * size]);
+        pack_eight(width, eight, &mut output[i * size..(i + 1) * size]);
     }
-    pack_eight(bits, rest, &mut output[eights.len() * size..]);
+    pack_eight(width, rest, &mut output[eights.len() * size..]);
 }
 
 /// Writes the bytes of up to eight numbers.
-fn pack_eight(bits: u32, numbers: &[u32], output: &mut [u8])
-    requires narrow { bits ≤ 16 }
+fn pack_eight(width: Width, numbers: &[u32], output: &mut [u8])
     requires few { length numbers.now ≤ 8 }
-    requires fit { AllFit bits numbers.now }
-    requires long { length output.old ≡ packed_length (length numbers.now) bits }
-    ensures { output.new ≡ packed bits numbers.now }
+    requires fit { AllFit width numbers.now }
+    requires long { length output.old ≡ packed_length (length numbers.now) width }
+    ensures { output.new ≡ packed width numbers.now }
 {
-    let mut rest = joined(bits, numbers);
+    let mut rest = joined(width, numbers);
     for byte in output.iter_mut() {
         *byte = (rest & 0xff) as u8;
         rest >>= 8;
@@ -82,23 +80,23 @@ fn pack_eight(bits: u32, numbers: &[u32], output: &mut [u8])
 
 /// The number whose digits are up to eight numbers: it has at most 128 bits. Half of them fit a
 /// machine word.
-fn joined(bits: u32, digits: &[u32]) -> u128
-    requires narrow { bits ≤ 16 }
+fn joined(width: Width, digits: &[u32]) -> u128
     requires few { length digits.now ≤ 8 }
-    requires fit { AllFit bits digits.now }
-    ensures { result ≡ number bits digits.now }
+    requires fit { AllFit width digits.now }
+    ensures { result ≡ number width digits.now }
 {
     let (low, high) = digits.split_at(digits.len().min(4));
-    u128::from(joined_four(bits, low)) + (u128::from(joined_four(bits, high)) << (4 * bits))
+    u128::from(joined_four(width, low))
+        + (u128::from(joined_four(width, high)) << (4 * width.bits()))
 }
 
 /// The same of up to four.
-fn joined_four(bits: u32, digits: &[u32]) -> u64
-    requires narrow { bits ≤ 16 }
+fn joined_four(width: Width, digits: &[u32]) -> u64
     requires few { length digits.now ≤ 4 }
-    requires fit { AllFit bits digits.now }
-    ensures { result ≡ number bits digits.now }
+    requires fit { AllFit width digits.now }
+    ensures { result ≡ number width digits.now }
 {
+    let bits = width.bits();
     let mut sum = 0;
     for (i, digit) in digits.iter().enumerate() {
         sum += u64::from(*digit) << (i as u32 * bits);

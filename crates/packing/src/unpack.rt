@@ -25,51 +25,49 @@ impl Width {
         if bytes.len() as u128 != self.packed_length(numbers.len()) {
             return Err(Fault::WrongLength(place::BYTES));
         }
-        unpack_numbers(self.bits(), bytes, numbers);
+        unpack_numbers(self, bytes, numbers);
         Ok(())
     }
 }
 
 /// Reads numbers from their bytes, eight at a time.
-fn unpack_numbers(bits: u32, bytes: &[u8], numbers: &mut [u32])
-    requires narrow { bits ≤ 16 }
-    requires long { length bytes.now ≡ packed_length (length numbers.old) bits }
-    ensures { numbers.new ≡ unpacked bits (length numbers.old) bytes.now }
+fn unpack_numbers(width: Width, bytes: &[u8], numbers: &mut [u32])
+    requires long { length bytes.now ≡ packed_length (length numbers.old) width }
+    ensures { numbers.new ≡ unpacked width (length numbers.old) bytes.now }
 {
-    let size = bits as usize;
+    let size = width.bits() as usize;
     let eights = numbers.len() / 8;
     for i in 0..eights {
         unpack_eight(
-            bits,
+            width,
             &bytes[i * size..(i + 1) * size],
             &mut numbers[8 * i..8 * (i + 1)],
         );
     }
-    unpack_eight(bits, &bytes[eights * size..], &mut numbers[8 * eights..]);
+    unpack_eight(width, &bytes[eights * size..], &mut numbers[8 * eights..]);
 }
 
 /// Reads up to eight numbers from their bytes.
-fn unpack_eight(bits: u32, bytes: &[u8], numbers: &mut [u32])
-    requires narrow { bits ≤ 16 }
+fn unpack_eight(width: Width, bytes: &[u8], numbers: &mut [u32])
     requires few { length numbers.old ≤ 8 }
-    requires long { length bytes.now ≡ packed_length (length numbers.old) bits }
-    ensures { numbers.new ≡ unpacked bits (length numbers.old) bytes.now }
+    requires short { length bytes.now ≤ 16 }
+    requires long { length bytes.now ≡ packed_length (length numbers.old) width }
+    ensures { numbers.new ≡ unpacked width (length numbers.old) bytes.now }
 {
     let mut block = [0; 16];
     block[..bytes.len()].copy_from_slice(bytes);
-    split(bits, u128::from_le_bytes(block), numbers);
+    split(width, u128::from_le_bytes(block), numbers);
 }
 
 /// The lowest digits of a number, up to eight. Half of them fit a machine word.
-fn split(bits: u32, joined: u128, numbers: &mut [u32])
-    requires narrow { bits ≤ 16 }
+fn split(width: Width, joined: u128, numbers: &mut [u32])
     requires few { length numbers.old ≤ 8 }
-    ensures { numbers.new ≡ digits bits (length numbers.old) joined }
+    ensures { numbers.new ≡ digits width (length numbers.old) joined }
 {
     let middle = numbers.len().min(4);
     let (low, high) = numbers.split_at_mut(middle);
-    split_word(bits, low_word(joined), low);
-    split_word(bits, low_word(joined >> (4 * bits)), high);
+    split_word(width, low_word(joined), low);
+    split_word(width, low_word(joined >> (4 * width.bits())), high);
 }
 
 fn low_word(x: u128) -> u64
@@ -79,10 +77,10 @@ fn low_word(x: u128) -> u64
 }
 
 /// The lowest digits of a word.
-fn split_word(bits: u32, word: u64, numbers: &mut [u32])
-    requires narrow { bits ≤ 16 }
-    ensures { numbers.new ≡ digits bits (length numbers.old) word }
+fn split_word(width: Width, word: u64, numbers: &mut [u32])
+    ensures { numbers.new ≡ digits width (length numbers.old) word }
 {
+    let bits = width.bits();
     let mask = (1 << bits) - 1;
     let mut rest = word;
     for number in numbers.iter_mut() {

@@ -1,6 +1,6 @@
 //! Widths: how many bits a packed number has, and the bytes that so many numbers of a width take.
 
-ghost use Rattle.std.specs.Prelude.{◌≡◌, ◌^◌, ℕ};
+ghost use Rattle.std.specs.Prelude.{◌≡◌, ◌*◌, ◌^◌, ◌≤◌, ℕ};
 ghost use Rattle.packing.specs.Lengths.{IsWidth, packed_length};
 
 use std::marker::Model;
@@ -52,8 +52,10 @@ impl Width {
     }
 
     /// How many bytes so many numbers take.
+    #[tactic(auto, using(crate::proofs::PackedLengths::two_bytes_each))]
     pub fn packed_length(self, count: usize) -> u128
-        ensures { result ≡ packed_length count self }
+        ensures value { result ≡ packed_length count self }
+        ensures bound { result ≤ 2 * count }
     {
         (count as u128 * u128::from(self.bits)).div_ceil(8)
     }

@@ -1,11 +1,9 @@
 use Rattle.std.proofs.Common.{◌∙◌, length, ap, arith}
 use Rattle.packing.specs.Packing.{digits}
-use Rattle.packing.proofs.Eights.{few_bytes}
 use Rattle.packing.proofs.Splitting.{block_number}
 use Rattle.packing.proofs.unpack.unpack_eight.Goals as goal
 
 pub returns : goal.returns
 returns c =
-    let few = few_bytes (length c.args.numbers.now) c.args.bits c.requires.few c.requires.narrow in
     c.split.ensures
-    ∙ ap (digits c.args.bits (length c.args.numbers.now)) (c.from_le_bytes.ensures ∙ block_number c.args.bytes.now _ c.copy_from_slice.ensures.after (omega (arith, few, c.requires.long)))
+    ∙ ap (digits c.args.width (length c.args.numbers.now)) (c.from_le_bytes.ensures ∙ block_number c.args.bytes.now _ c.copy_from_slice.ensures.after c.requires.short)

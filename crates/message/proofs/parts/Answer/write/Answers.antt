@@ -1,12 +1,14 @@
-use Rattle.std.proofs.Common.{◌≡◌, ◌∙◌, length, ap, arith, rules}
+use Rattle.std.proofs.Common.{◌≡◌, ◌∙◌, Ok, length, ap, subst, arith, rules}
 use Rattle.packing.specs.Lengths.{packed_length}
 use Rattle.profile.specs.declared.numbers.Numbers.{Numbers}
-use Rattle.packing.specs.Packing.{packed}
+use Rattle.packing.specs.Packing.{packed, AllFit}
 use Rattle.packing.proofs.Eights.{length-packed}
-use Rattle.message.specs.Messages.{encoded, head, section}
+use Rattle.message.specs.Messages.{answer, encoded, head, section}
+use Rattle.message.specs.Reading.{reading}
 use Rattle.message.specs.declared.kind.Kind.TheVariants.{Answer}
 use Rattle.message.specs.Sections.{written_at}
 use Rattle.message.proofs.WritingLaws.{written_means}
+use Rattle.message.proofs.ReadBack.{reads_back}
 use Rattle.message.proofs.Written.{three_written}
 use Rattle.message.proofs.parts.Answer.write.Goals as goal
 
@@ -30,6 +32,17 @@ returns-clause-writes g c =
     (c.pack_section.ensures.writes ∙ (λ j. written_at c.pack_section-at.result (section (packed (signals_w j) (signals_are j))) c.pack_section-at.new.out))
     (omega (arith, values_long, signals_long, c.answer_length.ensures, c.if-out-answer_length.false))
     ∙ ap (encoded k) c.self.view_is
+
+pub returns-clause-reads_back : goal.returns-clause-reads_back
+returns-clause-reads_back g c =
+    let k = g.P.Profile.NUMBERS in
+    let degree = ap (λ (s : Numbers). s.n) c.NUMBERS-n.ensures in
+    let values_fit : AllFit k.w c.self.inside.values.now = search rules in
+    let signals_fit : AllFit k.signal_width c.self.inside.signals.now = search rules in
+    ap (reading k Answer) (returns-clause-writes g c)
+    ∙ subst (λ m. reading k Answer (encoded k m) ≡ Ok m) c.self.view_is
+    (reads_back k g.met.P.Profile.lawful.in_range (answer c.self.inside.round c.self.inside.values.now c.self.inside.signals.now)
+    (c.head.ensures.round, record { count = c.if-values-n.false ∙ degree; fit = values_fit }, record { count = c.if-signals-n.false ∙ degree; fit = signals_fit }))
 
 pub returns-in_err-values-clause-means : goal.returns-in_err-values-clause-means
 returns-in_err-values-clause-means g c =

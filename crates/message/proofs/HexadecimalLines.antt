@@ -6,23 +6,23 @@ use borrow.Rule.Slice.PartMut.{put_mid}
 use Rattle.hex.specs.Hex.{encode_lower, lower_digits}
 use Rattle.hex.proofs.HexLemmas.{length-encode_with}
 use Rattle.ring.specs.declared.fault.Fault.{Fault}
-use Rattle.message.specs.Lines.{LineMeans, hexadecimal_line, hexadecimal_line_outcome}
+use Rattle.message.specs.HexadecimalLines.{HexadecimalLineMeans, hexadecimal_line, hexadecimal_line_outcome}
 
 length-hexadecimal_line : (word bytes : List ℕ) → length (hexadecimal_line word bytes) ≡ length word + 2 * length bytes + 2
 length-hexadecimal_line word bytes =
     let text = encode_lower bytes in
     omega (arith, length-append word (32 ∷ (text ++ 10 ∷ [])), length-append text (10 ∷ []), length-encode_with lower_digits bytes)
 
-pub line_means : (word bytes : List ℕ) (room : ℕ) → LineMeans word bytes room (hexadecimal_line_outcome word bytes room)
+pub line_means : (word bytes : List ℕ) (room : ℕ) → HexadecimalLineMeans word bytes room (hexadecimal_line_outcome word bytes room)
 line_means word bytes room =
     let long = length-hexadecimal_line word bytes in
-    cond_both (eqb room (length word + 2 * length bytes + 2)) _ _ (LineMeans word bytes room)
+    cond_both (eqb room (length word + 2 * length bytes + 2)) _ _ (HexadecimalLineMeans word bytes room)
     (λ same. eqb-true _ _ same ∙ sym long)
     (λ other. (refl, λ is. eqb-false _ _ other (is ∙ long)))
 
 -- the same of an outcome that is that of the line
-pub outcome_means : (word bytes : List ℕ) (room : ℕ) (result : Result (Unit {0}) Fault) → result ≡ hexadecimal_line_outcome word bytes room → LineMeans word bytes room result
-outcome_means word bytes room result is = subst (LineMeans word bytes room) (sym is) (line_means word bytes room)
+pub outcome_means : (word bytes : List ℕ) (room : ℕ) (result : Result (Unit {0}) Fault) → result ≡ hexadecimal_line_outcome word bytes room → HexadecimalLineMeans word bytes room result
+outcome_means word bytes room result is = subst (HexadecimalLineMeans word bytes room) (sym is) (line_means word bytes room)
 
 pub line_written : (word text out : List ℕ) → length out ≡ length word + length text + 2 → set (put_mid (length word + 1) (length out - 1 - (length word + 1)) (set (word ++ drop (length word) out) (length word) 32) text) (length out - 1) 10 ≡ word ++ 32 ∷ (text ++ 10 ∷ [])
 line_written word text out long =

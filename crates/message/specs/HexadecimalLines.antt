@@ -16,16 +16,17 @@ hexadecimal_line_outcome word bytes room =
     checked (room == length word + 2 * length bytes + 2) (WrongLength OUTPUT) (Ok tt)
 
 -- what each outcome says of the room: that it is the line's length, or that it is not
-abbrev pub LineMeans : (word bytes : List ℕ) → (room : ℕ) → Result (Unit {0}) Fault → Type 0
-LineMeans word bytes room (Ok _) = room ≡ length (hexadecimal_line word bytes)
-LineMeans word bytes room (Err (WrongLength place)) =
+abbrev pub HexadecimalLineMeans : (word bytes : List ℕ) → (room : ℕ) → Result (Unit {0}) Fault → Type 0
+HexadecimalLineMeans word bytes room (Ok _) = room ≡ length (hexadecimal_line word bytes)
+HexadecimalLineMeans word bytes room (Err (WrongLength place)) =
     (place ≡ OUTPUT) × (room ≢ length (hexadecimal_line word bytes))
-LineMeans word bytes room (Err (OutOfRange place)) = ⊥
-LineMeans word bytes room (Err (SumTooLarge place)) = ⊥
-LineMeans word bytes room (Err (CoinOutOfRange place)) = ⊥
-LineMeans word bytes room (Err (SourceSpent place)) = ⊥
+HexadecimalLineMeans word bytes room (Err (OutOfRange place)) = ⊥
+HexadecimalLineMeans word bytes room (Err (SumTooLarge place)) = ⊥
+HexadecimalLineMeans word bytes room (Err (CoinOutOfRange place)) = ⊥
+HexadecimalLineMeans word bytes room (Err (SourceSpent place)) = ⊥
 
 -- every word and bytes, into any room
-abbrev pub LineTakesItsLength : Type 0
-LineTakesItsLength =
-    (word bytes : List ℕ) (room : ℕ) → LineMeans word bytes room (hexadecimal_line_outcome word bytes room)
+abbrev pub HexadecimalLineTakesItsLength : Type 0
+HexadecimalLineTakesItsLength =
+    (word bytes : List ℕ) (room : ℕ) →
+    HexadecimalLineMeans word bytes room (hexadecimal_line_outcome word bytes room)

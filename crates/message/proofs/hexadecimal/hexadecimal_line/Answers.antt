@@ -3,8 +3,8 @@ use Rattle.hex.specs.Hex.{encode_lower, lower_digits}
 use Rattle.hex.proofs.HexLemmas.{length-encode_with}
 use borrow.Rule.Slice.PartMut.{put_mid}
 use Rattle.ring.specs.declared.fault.Fault.TheVariants.{WrongLength}
-use Rattle.message.proofs.Lines.{outcome_means, line_written}
-use Rattle.message.proofs.line.hexadecimal_line.Goals as goal
+use Rattle.message.proofs.HexadecimalLines.{outcome_means, line_written}
+use Rattle.message.proofs.hexadecimal.hexadecimal_line.Goals as goal
 
 pub returns-clause-writes : goal.returns-clause-writes
 returns-clause-writes c =
