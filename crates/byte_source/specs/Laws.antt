@@ -34,8 +34,8 @@ pub record DerivationLaws : Type 0 where
   pub stable : (n q : ℕ) (bytes more : List ℕ) (places : ℕ) → 1 < q →
       derive_outcome n q bytes places ≡ Ok tt → derived n q (bytes ++ more) ≡ derived n q bytes
 
--- at the moduli of the number sets T, S and W; how many bytes SHAKE128 gives for a seed; and one element that
--- was worked out by hand
+-- at the moduli of the number sets T, S and W; how many bytes SHAKE128 gives for a seed; and one element
+-- that was worked out by hand
 pub record DerivationValues : Type 0 where
   pub groups_t : Groups 257 9 2
   pub groups_s : Groups 12289 14 2
