@@ -1,4 +1,4 @@
--- What the answers of a profile's functions mean, and that what is in range is accepted.
+-- What the outcomes of a profile's functions mean, and that what is in range is accepted.
 use Rattle.std.proofs.Common.{inl, inr, ℕ, ◌+◌, ◌^◌, ltb, leb, refl, ◌∙◌, arith}
 use Rattle.std.proofs.lemmas.Bool.{cond-true, cond_both, lt-ltb, le-leb, ltb-true, ltb-false, leb-true, leb-false}
 use Rattle.profile.specs.OutcomeLaws.{NumberMeans, ReconcileMeans, ReadMeans, FunctionLaws, FunctionsRefuseTheFirst}

@@ -5,7 +5,7 @@ use Rattle.std.proofs.lemmas.List.{at_drop_more, at_drop_all}
 use Rattle.std.proofs.lemmas.List.Sums.{sum_by-cons, prefix_len_stops}
 use Rattle.std.proofs.lemmas.Bool.{cases_Bool, cases_lt, cond-true, cond-false, cond_both, eq-eqb, le-leb, lt-leb, leb-true, leb-false, eqb-true, eqb-false}
 use Rattle.profile.specs.declared.bounds.Bounds.{Bounds}
-use Rattle.ring.proofs.Elements.{whole_passes, front_passes, whole_front, none_or_first}
+use Rattle.ring.proofs.Elements.{whole_passes, passes_before, all_pass, none_or_first}
 use Rattle.profile.specs.Secrets.{FillMeans, FirstBeyond, NoneOrFirstPast, NoneOrFirstBeyond, FirstPast, LawfulSecret, fill_outcome, first_beyond, first_past}
 
 module _ (xs : List ℤ) (i sum l : ℕ) where
@@ -18,7 +18,7 @@ module _ (xs : List ℤ) (i sum l : ℕ) where
   pub summing_end : length xs ≤ i → first_past sum l (drop i xs) ≡ 0
   summing_end h = at_drop_all (first_past sum l) xs i h
 
--- ---- a front that is the whole list
+-- ---- a list that has no such place
 
 all_within : (e : ℕ) (xs : List ℤ) → length xs ≤ first_beyond e xs → All (λ x. nat_abs x ≤ e) xs
 all_within e xs h = whole_passes (λ x. leb (nat_abs x) e) (λ x. nat_abs x ≤ e) (λ x t. leb-true _ _ t) xs (pos 0) h
@@ -50,12 +50,12 @@ lawful_within b xs long small light = record {
   light = omega (arith, sum_within 0 b.l xs (omega arith) (omega arith));
 }
 
--- ---- a front that ends within the list
+-- ---- a list that has one
 
 pub within_first : (e : ℕ) (xs : List ℤ) → first_beyond e xs < length xs → FirstBeyond e xs (first_beyond e xs)
 within_first e xs h = record {
   inside = h;
-  before = front_passes (λ x. leb (nat_abs x) e) (λ x. nat_abs x ≤ e) (λ x t. leb-true _ _ t) xs (pos 0) (omega arith);
+  before = passes_before (λ x. leb (nat_abs x) e) (λ x. nat_abs x ≤ e) (λ x t. leb-true _ _ t) xs (pos 0) (omega arith);
   here = leb-false _ _ (prefix_len_stops (λ x. leb (nat_abs x) e) xs (pos 0) h);
 }
 
@@ -63,9 +63,9 @@ pub none_or_first_beyond : (e : ℕ) (xs : List ℤ) → NoneOrFirstBeyond e xs 
 none_or_first_beyond e xs =
     none_or_first (λ x. leb (nat_abs x) e) xs (All (λ x. nat_abs x ≤ e) xs) (FirstBeyond e xs) (all_within e xs) (within_first e xs)
 
--- where no size is above e, none stops the front
-pub all_within_reaches : (e : ℕ) (xs : List ℤ) → All (λ x. nat_abs x ≤ e) xs → length xs ≤ first_beyond e xs
-all_within_reaches e xs small = whole_front (λ x. leb (nat_abs x) e) xs (pos 0) (λ k h. le-leb _ _ (small k (pos 0) h))
+-- where no size is above e, there is no first one beyond
+pub within_reaches : (e : ℕ) (xs : List ℤ) → All (λ x. nat_abs x ≤ e) xs → length xs ≤ first_beyond e xs
+within_reaches e xs small = all_pass (λ x. leb (nat_abs x) e) xs (pos 0) (λ k h. le-leb _ _ (small k (pos 0) h))
 
 -- i is where the sum, running on from `sum`, first passes l
 abbrev PastFrom : ℕ → ℕ → List ℤ → ℕ → Type 0
@@ -129,5 +129,5 @@ summing_reaches sum l (x ∷ xs) h =
 pub lawful_fills : (b : Bounds) (xs : List ℤ) → LawfulSecret b xs → fill_outcome b xs ≡ Ok tt
 lawful_fills b xs lawful =
     cond-true _ _ _ (eq-eqb (length xs) b.n lawful.long)
-    ∙ cond-true _ _ _ (le-leb b.n (first_beyond b.e xs) (omega (arith, lawful.long, all_within_reaches b.e xs lawful.small)))
+    ∙ cond-true _ _ _ (le-leb b.n (first_beyond b.e xs) (omega (arith, lawful.long, within_reaches b.e xs lawful.small)))
     ∙ cond-true _ _ _ (le-leb b.n (first_past 0 b.l xs) (omega (arith, lawful.long, summing_reaches 0 b.l xs (omega (arith, lawful.light)))))

@@ -22,6 +22,7 @@ pub trait Profile {
 
     ghost NUMBERS: { Numbers };
 
+    // what rounding, recovering, reconciling and reading are
     ghost functions: { Functions };
 
     /// The rounded value of a residue.
@@ -40,7 +41,9 @@ pub trait Profile {
     fn read(y: u32, signal: u32) -> Result<u32, Fault>
         ensures { result ≡ read_outcome NUMBERS functions y signal };
 
+    // the side conditions and the four laws
     ghost lawful: { Lawful NUMBERS functions };
 
+    // a secret of the profile is held to the profile's own numbers
     ghost secret_bounds: { Self.Secret.bounds ≡ bounds_of NUMBERS };
 }

@@ -17,6 +17,7 @@ pub trait SecretPlace: Drop {
     /// The profile that the place belongs to.
     type Profile;
 
+    // what a secret is held to
     ghost bounds: { Bounds };
 
     // the coefficients that are held, if any
@@ -56,6 +57,7 @@ pub trait SecretPlace: Drop {
         ensures unfilled { held self.new ≡ None }
         ensures zeroed { memory self.new ≡ zeros bounds.n };
 
+    // unfilled with words of 0, or filled with a lawful secret in its words
     ghost unfilled_or_lawful: { (place : Self)
         → UnfilledOrLawful bounds (held place) (memory place) };
 }

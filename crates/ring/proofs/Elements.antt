@@ -1,4 +1,4 @@
--- What the front of a list says: one that is the whole list, and one that ends before it.
+-- Where a list first has an element that does not pass a test, or a number that is not below a bound.
 use Rattle.std.proofs.Common.{inl, inr, ⊎_elim, if◌then◌else◌, ◌≡◌, ℕ, ◌<◌, ◌≤◌, leb, ltb, Bool, true, false, List, length, get_or, take, length-take, arith}
 use Rattle.std.specs.Prelude.{All}
 use Rattle.std.specs.List.{prefix_len}
@@ -14,8 +14,8 @@ module _ {X : Type 0} (p : X → Bool) (P : X → Type 0) (says : (x : X) → p 
   pub whole_passes : length xs ≤ prefix_len p xs → All P xs
   whole_passes h = All-from_get_or P xs d (λ k lt. says _ (prefix_len_passes p xs k d (omega arith)))
 
-  pub front_passes : prefix_len p xs ≤ length xs → All P (take (prefix_len p xs) xs)
-  front_passes h =
+  pub passes_before : prefix_len p xs ≤ length xs → All P (take (prefix_len p xs) xs)
+  passes_before h =
       let i = prefix_len p xs in
       All-from_get_or P (take i xs) d (λ k lt.
       let inside : k < i = omega (arith, length-take i xs) in
@@ -29,11 +29,11 @@ all_below bound xs h = whole_passes (λ x. ltb x bound) (λ x. x < bound) (λ x 
 pub is_first_not_below : (bound : ℕ) (xs : List ℕ) → first_not_below bound xs < length xs → FirstNotBelow bound xs (first_not_below bound xs)
 is_first_not_below bound xs h = record {
   inside = h;
-  before = front_passes (λ x. ltb x bound) (λ x. x < bound) (λ x t. ltb-true _ _ t) xs 0 (omega arith);
+  before = passes_before (λ x. ltb x bound) (λ x. x < bound) (λ x t. ltb-true _ _ t) xs 0 (omega arith);
   here = ltb-false _ _ (prefix_len_stops (λ x. ltb x bound) xs 0 h);
 }
 
--- where the front of a list that passes a test ends, whichever test it is: at the list's end, or at the first other one
+-- how many pass before the first other one, whichever test it is: all, or as many as its index
 module _ {X : Type 0} (p : X → Bool) (xs : List X) (AllGood : Type 0) (FirstOther : ℕ → Type 0) where
   pub none_or_first : (length xs ≤ prefix_len p xs → AllGood) → (prefix_len p xs < length xs → FirstOther (prefix_len p xs)) → NoneOrFirst (length xs) AllGood FirstOther (prefix_len p xs)
   none_or_first good other =
@@ -57,9 +57,9 @@ module _ {Y : Type 0} (n bound : ℕ) (xs : List ℕ) (long : length xs ≡ n) (
 
 -- ---- and back: how many come before the first that does not pass, or is not below the bound
 
--- where all pass, none stops the front
-pub whole_front : {X : Type 0} (p : X → Bool) (xs : List X) (d : X) → ((k : ℕ) → k < length xs → p (get_or xs k d) ≡ true) → length xs ≤ prefix_len p xs
-whole_front p xs d passes =
+-- where all pass, there is no first other one
+pub all_pass : {X : Type 0} (p : X → Bool) (xs : List X) (d : X) → ((k : ℕ) → k < length xs → p (get_or xs k d) ≡ true) → length xs ≤ prefix_len p xs
+all_pass p xs d passes =
     ⊎_elim
     (λ (stops : prefix_len p xs < length xs).
     let stop : p (get_or xs (prefix_len p xs) d) ≡ false = prefix_len_stops p xs d stops in
@@ -69,7 +69,7 @@ whole_front p xs d passes =
     (cases_lt (prefix_len p xs) (length xs))
 
 pub all_below_reaches : (bound : ℕ) (xs : List ℕ) → AllBelow bound xs → length xs ≤ first_not_below bound xs
-all_below_reaches bound xs below = whole_front (λ x. ltb x bound) xs 0 (λ k h. lt-ltb _ _ (below k 0 h))
+all_below_reaches bound xs below = all_pass (λ x. ltb x bound) xs 0 (λ k h. lt-ltb _ _ (below k 0 h))
 
 -- so the test that n numbers are below the bound is passed
 pub all_below_passes : (bound n : ℕ) (xs : List ℕ) → length xs ≡ n → AllBelow bound xs → leb n (first_not_below bound xs) ≡ true

@@ -5,6 +5,7 @@ use Rattle.ring.specs.declared.fault.Fault.{Fault}
 use Rattle.ring.specs.declared.fault.Fault.TheVariants.{WrongLength, OutOfRange, SumTooLarge}
 use Rattle.ring.specs.declared.fault.Fault.TheVariants.{CoinOutOfRange, SourceSpent}
 
+-- what is reported of a fault
 pub record Report : Type 0 where
   pub layer : ℕ
   pub number : ℕ
@@ -16,15 +17,6 @@ report (OutOfRange place) = record { layer = 1; number = 2; place = place }
 report (SumTooLarge place) = record { layer = 1; number = 3; place = place }
 report (CoinOutOfRange place) = record { layer = 1; number = 4; place = place }
 report (SourceSpent place) = record { layer = 1; number = 5; place = place }
-
-abbrev pub layer_of : Fault → ℕ
-layer_of fault = (report fault).layer
-
-abbrev pub number_of : Fault → ℕ
-number_of fault = (report fault).number
-
-abbrev pub place_of : Fault → ℕ
-place_of fault = (report fault).place
 
 -- ---- outcomes
 

@@ -1,5 +1,6 @@
 pub mod Elements
 pub mod Faults
 pub mod Moduli
+pub mod Places
 pub mod Residues
 pub mod Scratch

@@ -20,18 +20,18 @@ pub enum Fault {
 }
 
 impl Fault {
-    ghost use Rattle.ring.specs.Faults.{layer_of, number_of, place_of};
+    ghost use Rattle.ring.specs.Faults.{report};
 
     /// The layer that gives the fault: 1, the ring.
     pub fn layer(self) -> u8
-        ensures { result ≡ layer_of self }
+        ensures { result ≡ (report self).layer }
     {
         1
     }
 
     /// The fault's number, from 1 to 5.
     pub fn number(self) -> u8
-        ensures { result ≡ number_of self }
+        ensures { result ≡ (report self).number }
     {
         match self {
             Fault::WrongLength(_) => 1,
@@ -44,7 +44,7 @@ impl Fault {
 
     /// An argument, an index or a count, as the case says.
     pub fn place(self) -> usize
-        ensures { result ≡ place_of self }
+        ensures { result ≡ (report self).place }
     {
         match self {
             Fault::WrongLength(place)

@@ -3,16 +3,17 @@
 
 #![tactic(auto)]
 
+mod degree;
 mod fault;
 mod first;
 mod modulus;
-/// which argument a wrong length is that of
 pub mod place;
 mod scratch;
 mod theorems;
 
+pub use degree::LARGEST_DEGREE;
 pub use fault::Fault;
 pub use first::first_not_below;
 pub use modulus::Modulus;
 pub use scratch::ScratchGuard;
-pub use theorems::residue_laws;
+pub use theorems::{places_are_numbered, residue_laws};
