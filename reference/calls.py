@@ -179,6 +179,9 @@ def packing():
         yield f"pack 6 24,48,1,0 {room}"
     for width, many in (6, 0), (6, 2), (6, 4), (1, 0), (1, 2), (16, 7), (16, 9):
         yield f"unpack {width} {'ff' * many or '-'} 4"
+    yield "# a length comes before a number that does not fit"
+    for room in 0, 2, 3, 4:
+        yield f"pack 6 24,64,1,0 {room}"
     yield "# spare bits are not looked at"
     yield "unpack 1 f2 4"
     yield "unpack 6 18fc 2"

@@ -295,11 +295,11 @@ def check_packing():
 def check_example():
     """Byte by byte, with the numbers as bits, the last first."""
     round_1, seed = [1, 0, 0, 0], list(range(16))
-    offered = [0b00011000, 0b0001_1100, 0b000000_00]  # 0, 1, 48 and 24 are 000000 000001 110000 011000
-    answered = [0b00000000, 0b0010_0110, 0b000001_11]  # 1, 50, 24 and 0 are 000001 110010 011000 000000
+    offer_values = [0b00011000, 0b0001_1100, 0b000000_00]  # 0, 1, 48 and 24 are 000000 000001 110000 011000
+    answer_values = [0b00000000, 0b0010_0110, 0b000001_11]  # 1, 50, 24 and 0 are 000001 110010 011000 000000
     three = example()
-    assert list(three["offer"]) == [7, 0, 1, 1, 1, *round_1, 16, 0, *seed, 3, 0, *offered]
-    assert list(three["answer"]) == [7, 0, 2, 1, 1, *round_1, 3, 0, *answered, 1, 0, 0b0010]
+    assert list(three["offer"]) == [7, 0, 1, 1, 1, *round_1, 16, 0, *seed, 3, 0, *offer_values]
+    assert list(three["answer"]) == [7, 0, 2, 1, 1, *round_1, 3, 0, *answer_values, 1, 0, 0b0010]
     assert list(three["confirmation"]) == [7, 0, 3, 1, 1, *round_1]
     assert three["offer"].hex() == "0700010101010000001000000102030405060708090a0b0c0d0e0f0300181c00"
     assert three["answer"].hex() == "0700020101010000000300002607010002"

@@ -2,8 +2,7 @@
 
 use crate::outcomes::{BEFORE, Refusal, show_output, show_refusal};
 use crate::words::{bytes, numbers, width};
-use packing::{Fields, Width};
-use ring::Fault;
+use packing::Width;
 
 /// Prints a width of so many bits, if there is one.
 pub fn show_width(rt: &impl Print, bits: u32) -> anyhow::Result<()> {
@@ -12,12 +11,6 @@ pub fn show_width(rt: &impl Print, bits: u32) -> anyhow::Result<()> {
         None => println!(rt; "no width")?,
     }
     Ok(())
-}
-
-/// The outcome of packing by its two steps.
-fn pack(width: Width, numbers: &[u32], output: &mut [u8]) -> Result<(), Fault> {
-    let fields = Fields::check(width, numbers).map_err(Fault::OutOfRange)?;
-    fields.pack(output)
 }
 
 /// Prints the bytes of a list of numbers of so many bits, for an output of `room` bytes.
@@ -29,7 +22,7 @@ pub fn show_packed(
 ) -> anyhow::Result<()> {
     let list = numbers(rt.alloc(), list)?;
     let mut output = vec![in rt.alloc(); BEFORE; room]?;
-    let outcome = pack(width(bits)?, &list, &mut output);
+    let outcome = width(bits)?.pack(&list, &mut output);
     show_output(rt, outcome, &output)
 }
 
