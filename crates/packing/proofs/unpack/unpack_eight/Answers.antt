@@ -1,4 +1,4 @@
-use Rattle.std.proofs.Common.{◌∙◌, length, ap, arith}
+use Rattle.std.proofs.Common.{◌∙◌, length, ap}
 use Rattle.packing.specs.Packing.{digits}
 use Rattle.packing.proofs.Splitting.{block_number}
 use Rattle.packing.proofs.unpack.unpack_eight.Goals as goal
