@@ -1,7 +1,6 @@
 pub mod Written
 pub mod Rows
 pub mod Heads
-pub mod LengthBounds
 pub mod ReadBack
 pub mod WrittenAgain
 pub mod Alike

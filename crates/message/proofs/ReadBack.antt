@@ -10,6 +10,7 @@ use Rattle.profile.specs.declared.numbers.Numbers.{Numbers}
 use Rattle.profile.proofs.Ranges.{n_most}
 use Rattle.packing.specs.Packing.{number, packed, unpacked}
 use Rattle.packing.proofs.Eights.{length-packed}
+use Rattle.packing.proofs.PackedLengths.{two_bytes_each}
 use Rattle.packing.proofs.Laws.{number_of_packed, unpacks_what_was_packed}
 use Rattle.packing.proofs.Digits.{number_below}
 use Rattle.message.specs.declared.kind.Kind.TheVariants.{Offer, Answer, Confirmation}
@@ -19,7 +20,6 @@ use Rattle.message.specs.Reading.{head_fault, reading, round_in, round_read, spa
 use Rattle.ring.specs.Faults.{unless}
 use Rattle.message.specs.Shapes.{contents, layout, offset}
 use Rattle.message.proofs.Heads.{head_right, round_back}
-use Rattle.message.proofs.LengthBounds.{packed_length_most}
 use Rattle.message.proofs.Rows.{AreLong, row, row_back, row_right, three_in_a_row}
 
 -- ---- numbers in a section
@@ -38,10 +38,10 @@ module _ (n w : ℕ) (xs : List ℕ) (are : AreNumbers n w xs) where
 
 module _ (k : Numbers) (range : InRange k) where
   pub values_few : values_length k < 2 ^ 16
-  values_few = omega (arith, packed_length_most k.n k.w (n_most k range) range.w_most)
+  values_few = omega (arith, two_bytes_each k.n k.w range.w_most, n_most k range)
 
   pub signals_few : signals_length k < 2 ^ 16
-  signals_few = omega (arith, packed_length_most k.n k.signal_width (n_most k range) (omega (arith, range.width_most)))
+  signals_few = omega (arith, two_bytes_each k.n k.signal_width (omega (arith, range.width_most)), n_most k range)
 
   -- ---- each kind
 
