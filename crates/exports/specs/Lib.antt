@@ -1,4 +1,5 @@
 pub mod Codes
+pub mod CodeLaws
 pub mod ByProfile
 pub mod Seeds
 pub mod Elements

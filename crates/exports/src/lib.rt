@@ -11,6 +11,7 @@ mod packed;
 mod profiles;
 mod reading;
 mod refusal;
+mod theorems;
 mod writing;
 
 pub use codes::DONE;
@@ -19,4 +20,5 @@ pub use elements::exported_multiply;
 pub use packed::{exported_pack, exported_unpack};
 pub use profiles::{exported_read, exported_reconcile, exported_recover, exported_round};
 pub use reading::{exported_read_answer, exported_read_confirmation, exported_read_offer};
+pub use theorems::codes_tell_outcomes;
 pub use writing::{exported_write_answer, exported_write_confirmation, exported_write_offer};

@@ -47,9 +47,10 @@ widened s d tied = record {
   ties = s.ties + (if tied then 1 else 0);
 }
 
-abbrev pub rounding_outcome : Numbers → Functions → Result RoundingSurvey Fault → Type 0
-rounding_outcome k f (Ok s) = Surveyed k f k.q s
-rounding_outcome k f (Err fault) = ⊥
+-- a survey of all residues is never refused
+abbrev pub RoundingMeans : Numbers → Functions → Result RoundingSurvey Fault → Type 0
+RoundingMeans k f (Ok s) = Surveyed k f k.q s
+RoundingMeans k f (Err fault) = ⊥
 
 abbrev pub keys_outcome : Numbers → Functions → ℕ → ℕ → Result KeyCounts Fault
 keys_outcome k f coin signal =

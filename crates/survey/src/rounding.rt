@@ -1,7 +1,7 @@
 //! How far rounding moves the residues of a profile.
 
 ghost use Rattle.std.specs.Prelude.{◌≡◌, ◌^◌, ◌<◌, Ok, if◌then◌else◌};
-ghost use Rattle.survey.specs.Surveys.{distance, tie, rounding_outcome, widened};
+ghost use Rattle.survey.specs.Surveys.{RoundingMeans, distance, tie, widened};
 
 use profile::Profile;
 use ring::Fault;
@@ -73,7 +73,7 @@ impl From<Rounded> for RoundingSurvey {
 
 /// Rounds and recovers every residue of a profile, from 0 to q - 1. It is never refused.
 pub fn survey_rounding<P: Profile>() -> Result<RoundingSurvey, Fault>
-    ensures { rounding_outcome P.NUMBERS P.functions result }
+    ensures { RoundingMeans P.NUMBERS P.functions result }
 {
     let mut survey = RoundingSurvey::from(Rounded::of::<P>(0)?);
     for x in 1..P::NUMBERS.q {
