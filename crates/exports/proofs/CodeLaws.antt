@@ -17,8 +17,8 @@ tells number place some few fits =
     record {
       number_is = omega arith;
       place_is = omega arith;
-      no_value = omega arith;
-      a_call = omega arith;
+      more_bits = omega arith;
+      below_no_call = omega arith;
     }
 
 ring_fault : (fault : Fault) → (report fault).place < 2 ^ 56 → TellsFault (report fault).number (report fault).place (fault_code fault)

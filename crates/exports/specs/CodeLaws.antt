@@ -6,13 +6,13 @@ use Rattle.message.specs.Faults as message
 use Rattle.message.specs.declared.fault.Fault as message_fault
 use Rattle.exports.specs.Codes.{fault_code, message_fault_code, no_call, pair_number}
 
--- the fault's number and place are read back from its code, which no value of at most 56 bits has, and which
--- is below that of no call
+-- the fault's number and place are read back from its code, which has more than 56 bits, as no value has,
+-- and is below that of no call
 pub record TellsFault (number place code : ℕ) : Type 0 where
   pub number_is : code / 2 ^ 56 ≡ number
   pub place_is : code % 2 ^ 56 ≡ place
-  pub no_value : 2 ^ 56 ≤ code
-  pub a_call : code < no_call
+  pub more_bits : 2 ^ 56 ≤ code
+  pub below_no_call : code < no_call
 
 -- a signal and a key bit are read back from the number of both
 pub record TellsPair (signal bit : ℕ) : Type 0 where
