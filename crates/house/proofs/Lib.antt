@@ -1,3 +1,4 @@
 pub mod Smallest
 pub mod RoundingSearch
+pub mod RoundingSteps
 pub mod Ties

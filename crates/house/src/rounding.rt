@@ -29,7 +29,7 @@ impl Rounding {
     }
 
     /// The value in 0 .. p of the class of x that recovers nearest to x, the smaller at a tie.
-    #[tactic(auto, using(crate::proofs::RoundingSearch::round_steps))]
+    #[tactic(auto, using(crate::proofs::RoundingSteps::round_steps))]
     pub(crate) fn round(self, x: u32) -> u32
         requires { x < self.q }
         ensures { result ≡ round_value self.q self.p self.step x }

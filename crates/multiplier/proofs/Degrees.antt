@@ -6,11 +6,11 @@ use Rattle.ring.specs.declared.degree.TheConstants.{LARGEST_DEGREE}
 use Rattle.multiplier.specs.Multipliers.{IsDegree}
 use Rattle.multiplier.specs.LawProofs.{degree_from_ones}
 
-ones_of_degree : (n : ℕ) → IsDegree n → ones n ≡ 1
+pub ones_of_degree : (n : ℕ) → IsDegree n → ones n ≡ 1
 unfolding ones
 ones_of_degree n (m, most, is) = ap ones (is ∙ omega arith) ∙ ones_cat m 1 0 (pow_pos m)
 
-degree_most : (n : ℕ) → IsDegree n → n ≤ LARGEST_DEGREE
+pub degree_most : (n : ℕ) → IsDegree n → n ≤ LARGEST_DEGREE
 degree_most n (m, most, is) = let bound : 2 ^ m ≤ 2 ^ 10 = pow_mono most in omega arith
 
 -- a degree passes both tests

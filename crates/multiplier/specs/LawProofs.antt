@@ -26,11 +26,19 @@ degree_from_ones n one most =
     let m = one_bit 11 n (omega arith) one in
     (m.0, omega (arith, m.1), m.2)
 
+-- whatever the need, up to 65536 words
+pub need_in_range : (ring : Ring) (need : ℕ) → need ≤ 65536
+    → InRange ring.degree ring.modulus need
+need_in_range ring need most = record {
+  degree = degree_from_ones ring.degree ring.power ring.most;
+  modulus = ring.is_modulus;
+  need_most = most;
+}
+
 -- with no more than 64 scratch words for each coefficient
 pub in_range : (ring : Ring) (words : ℕ) → words ≤ 64
     → InRange ring.degree ring.modulus (words * ring.degree)
-in_range ring words few = record {
-  degree = degree_from_ones ring.degree ring.power ring.most;
-  modulus = ring.is_modulus;
-  need_most = omega (arith, mul-le words ring.degree 64 LARGEST_DEGREE few ring.most);
-}
+in_range ring words few =
+    let most : words * ring.degree ≤ 65536 =
+    omega (arith, mul-le words ring.degree 64 LARGEST_DEGREE few ring.most) in
+    need_in_range ring (words * ring.degree) most

@@ -1,4 +1,4 @@
-use Rattle.house.proofs.RoundingSearch.{recover_parts}
+use Rattle.house.proofs.RoundingSteps.{recover_parts}
 use Rattle.house.proofs.rounding.Rounding.recover.Goals as goal
 
 pub returns : goal.returns
