@@ -3,11 +3,10 @@
 ghost use Rattle.std.specs.Prelude.{◌≡◌, ◌≤◌, ◌↔◌, true, length, IfOk, IsTrue};
 ghost use Rattle.element.specs.Products.{product};
 ghost use Rattle.keccak.specs.Sponge.{shake128};
-ghost use Rattle.vectors.specs.declared.checks.TheConstants.{LARGEST_COUNT};
 ghost use Rattle.vectors.specs.Holding.{element_of, OutputHolds, ProductHolds, DerivedHolds};
 ghost use Rattle.vectors.specs.Holding.{RoundedHolds, ReconciledHolds, ReadHolds, Holds};
 
-use crate::line::Group;
+use crate::line::{Group, NumbersError};
 use anyhow::bail;
 use exports::{
     DONE, exported_derive_shake, exported_multiply, exported_read, exported_reconcile,
@@ -22,18 +21,18 @@ const MALFORMED: &str = "a line of the wrong length";
 const LARGEST_COUNT: usize = 4096;
 
 /// The numbers of a line as bytes, unless one is not.
-fn bytes(alloc: Global, numbers: &[u32]) -> anyhow::Result<Vec<u8>>
+fn bytes(alloc: Global, numbers: &[u32]) -> Result<Vec<u8>, NumbersError>
     ensures { IfOk result (λ v. v.items ≡ numbers.now) }
 {
     numbers
         .iter()
-        .map(|number| -> anyhow::Result<u8> { Ok(u8::try_from(*number)?) })
+        .map(|number| -> Result<u8, NumbersError> { Ok(u8::try_from(*number)?) })
         .try_collect(alloc)
 }
 
 /// A number of a line as a count, unless it is too large for one.
 fn count(number: u32) -> anyhow::Result<usize>
-    ensures { IfOk result (λ n. (n ≡ number) × (n ≤ LARGEST_COUNT)) }
+    ensures { IfOk result (λ n. (n ≡ number) × (n ≤ 4096)) }
 {
     let count = number as usize;
     if count > LARGEST_COUNT {

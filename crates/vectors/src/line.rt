@@ -1,12 +1,14 @@
 //! A line of the input: a word for the group, then numbers.
 
-ghost use Rattle.std.specs.Prelude.{◌≡◌, ◌≢◌, ◌↔◌, Ok, Contains, IfOk, IsTrue, codes};
+ghost use Rattle.std.specs.Prelude.{◌≡◌, ◌≢◌, ◌↔◌, true, Ok, All, Contains, IfOk, IsTrue, codes};
 ghost use Rattle.hex.specs.Hex.{decode_of};
 
 use anyhow::{Context, anyhow, bail};
-use std::alloc::Global;
+use std::alloc::{AllocError, Global};
 use std::fmt;
+use std::num::{ParseIntError, TryFromIntError};
 use std::str::FromStr;
+use thiserror::Error;
 
 /// What the vector of a line is about, and with that which numbers the line has.
 #[derive(Clone, Copy, PartialEq, Eq, PartialOrd, Ord, Debug)]
@@ -72,6 +74,21 @@ impl fmt::Display for Group {
     }
 }
 
+/// Why the numbers of a line are not taken. It is small, since it is handed on with each number;
+/// an `anyhow::Error` has room for its message in it.
+#[derive(Debug, Drop, Error)]
+pub enum NumbersError {
+    /// a word that is no number
+    #[error(transparent)]
+    Word(#[from] ParseIntError),
+    /// a number that is no byte
+    #[error(transparent)]
+    Byte(#[from] TryFromIntError),
+    /// no memory for the numbers
+    #[error(transparent)]
+    Memory(#[from] AllocError),
+}
+
 /// The vector of a line.
 #[derive(Drop)]
 pub struct Vector {
@@ -88,21 +105,34 @@ fn is_lower_hex_digit(text: &u8) -> bool
     b"0123456789abcdef".contains(text)
 }
 
+/// Whether all characters are such digits.
+fn are_lower_hex_digits(text: &[u8]) -> bool
+    ensures { result ≡ true → All (Contains (codes "0123456789abcdef")) text.now }
+{
+    text.iter().all(is_lower_hex_digit)
+}
+
 /// The bytes of a text in hexadecimal with small letters, of which `-` has none.
+#[tactic(auto, using(std::proofs::lemmas::List::take_all))]
 fn hex_bytes(alloc: Global, text: &str) -> anyhow::Result<Vec<u8>>
-    ensures { IfOk result (λ bytes. text.now ≢ codes "-" → decode_of text.now ≡ Ok bytes.items) }
+    ensures decodes { IfOk result (λ bytes. text.now ≢ codes "-"
+        → decode_of text.now ≡ Ok bytes.items) }
+    ensures small_letters { IfOk result (λ _. text.now ≢ codes "-"
+        → All (Contains (codes "0123456789abcdef")) text.now) }
 {
     if text == "-" {
         return Ok(Vec::new(alloc));
     }
-    let (pairs, half) = text.as_bytes().as_chunks::<2>();
-    if !pairs.as_flattened().iter().all(is_lower_hex_digit) {
+    let (digits, half) = text.as_bytes().split_at(text.len() / 2 * 2);
+    if !are_lower_hex_digits(digits) {
         bail!("no hexadecimal digit");
     }
     if !half.is_empty() {
         bail!("half a byte");
     }
-    Ok(hex::decode(alloc, text)?)
+    let mut bytes = vec![in alloc; 0u8; text.len() / 2]?;
+    hex::decode_to_slice(text, &mut bytes)?;
+    Ok(bytes)
 }
 
 /// The counts and the bytes of a message and an output.
@@ -134,7 +164,7 @@ pub fn read_line(alloc: Global, text: &str) -> anyhow::Result<Option<Vector>> {
         )?
     } else {
         words
-            .map(|word| -> anyhow::Result<u32> { Ok(word.parse()?) })
+            .map(|word| -> Result<u32, NumbersError> { Ok(word.parse()?) })
             .try_collect(alloc)?
     };
     Ok(Some(Vector { group, numbers }))
