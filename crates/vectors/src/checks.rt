@@ -1,6 +1,6 @@
 //! Whether a vector holds of the library.
 
-ghost use Rattle.std.specs.Prelude.{◌≡◌, ◌≤◌, ◌↔◌, true, length, IfOk, IsTrue};
+ghost use Rattle.std.specs.Prelude.{◌≡◌, ◌≤◌, ◌↔◌, true, length, IfOk, IsOk, IsTrue};
 ghost use Rattle.element.specs.Products.{product};
 ghost use Rattle.keccak.specs.Sponge.{shake128};
 ghost use Rattle.vectors.specs.Holding.{element_of, OutputHolds, ProductHolds, DerivedHolds};
@@ -32,7 +32,8 @@ fn bytes(alloc: Global, numbers: &[u32]) -> Result<Vec<u8>, NumbersError>
 
 /// A number of a line as a count, unless it is too large for one.
 fn count(number: u32) -> anyhow::Result<usize>
-    ensures { IfOk result (λ n. (n ≡ number) × (n ≤ 4096)) }
+    ensures value { IfOk result (λ n. (n ≡ number) × (n ≤ 4096)) }
+    ensures accepts { number ≤ 4096 → IsOk result }
 {
     let count = number as usize;
     if count > LARGEST_COUNT {

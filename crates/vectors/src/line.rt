@@ -1,6 +1,7 @@
 //! A line of the input: a word for the group, then numbers.
 
-ghost use Rattle.std.specs.Prelude.{◌≡◌, ◌≢◌, ◌↔◌, true, Ok, All, Contains, IfOk, IsTrue, codes};
+ghost use Rattle.std.specs.Prelude.{◌≡◌, ◌≢◌, ◌↔◌, [], Ok, All, Contains, IfOk, IsTrue, codes};
+ghost use Rattle.vectors.specs.Hexadecimal.{lower_hex_digits};
 ghost use Rattle.hex.specs.Hex.{decode_of};
 
 use anyhow::{Context, anyhow, bail};
@@ -98,27 +99,27 @@ pub struct Vector {
     pub numbers: Vec<u32>,
 }
 
-/// Whether a character is a hexadecimal digit, a small letter if it is a letter.
+/// Whether a character is a hexadecimal digit in lower case.
 fn is_lower_hex_digit(text: &u8) -> bool
-    ensures { IsTrue result ↔ Contains (codes "0123456789abcdef") text.now }
+    ensures { IsTrue result ↔ Contains lower_hex_digits text.now }
 {
     b"0123456789abcdef".contains(text)
 }
 
 /// Whether all characters are such digits.
 fn are_lower_hex_digits(text: &[u8]) -> bool
-    ensures { result ≡ true → All (Contains (codes "0123456789abcdef")) text.now }
+    ensures { IsTrue result ↔ All (Contains lower_hex_digits) text.now }
 {
     text.iter().all(is_lower_hex_digit)
 }
 
-/// The bytes of a text in hexadecimal with small letters, of which `-` has none.
-#[tactic(auto, using(std::proofs::lemmas::List::take_all))]
+/// The bytes of a text in lower-case hexadecimal, of which `-` has none.
 fn hex_bytes(alloc: Global, text: &str) -> anyhow::Result<Vec<u8>>
+    ensures none { IfOk result (λ bytes. text.now ≡ codes "-" → bytes.items ≡ []) }
     ensures decodes { IfOk result (λ bytes. text.now ≢ codes "-"
         → decode_of text.now ≡ Ok bytes.items) }
-    ensures small_letters { IfOk result (λ _. text.now ≢ codes "-"
-        → All (Contains (codes "0123456789abcdef")) text.now) }
+    ensures lower_case { IfOk result (λ _. text.now ≢ codes "-"
+        → All (Contains lower_hex_digits) text.now) }
 {
     if text == "-" {
         return Ok(Vec::new(alloc));
@@ -130,7 +131,7 @@ fn hex_bytes(alloc: Global, text: &str) -> anyhow::Result<Vec<u8>>
     if !half.is_empty() {
         bail!("half a byte");
     }
-    let mut bytes = vec![in alloc; 0u8; text.len() / 2]?;
+    let mut bytes = vec![in alloc; 0u8; digits.len() / 2]?;
     hex::decode_to_slice(text, &mut bytes)?;
     Ok(bytes)
 }
